@@ -1,0 +1,25 @@
+use Rattle.packet_fields.specs.KeyText.{ends_text}
+use Rattle.packet_fields.proofs.KeyTexts.{AreOctets, ends_flat, adds, adds_front}
+use Rattle.packet_fields.proofs.texts.ends_text.Goals as goal
+
+pub returns-clause-ok : goal.returns-clause-ok
+returns-clause-ok c =
+    let k = c.args.key.now in
+    let s = c.octets-s in
+    let d = c.octets-d in
+    let a : AreOctets k.source s.result.0 s.result.1 s.result.2 s.result.3 = record { first = s.ensures.first; second = s.ensures.second; third = s.ensures.third; fourth = s.ensures.fourth } in
+    let b : AreOctets k.destination d.result.0 d.result.1 d.result.2 d.result.3 = record { first = d.ensures.first; second = d.ensures.second; third = d.ensures.third; fourth = d.ensures.fourth } in
+    adds c.push_all.result c.args.text.now c.push_all.new.self _ (ends_text c.args.name.now k)
+    (ends_flat c.args.name.now k s.result.0 s.result.1 s.result.2 s.result.3 _ d.result.0 d.result.1 d.result.2 d.result.3 _ a c.from.ensures b c.from-2.ensures)
+    c.push_all.ensures.ok
+
+pub returns-clause-err : goal.returns-clause-err
+returns-clause-err c =
+    let k = c.args.key.now in
+    let s = c.octets-s in
+    let d = c.octets-d in
+    let a : AreOctets k.source s.result.0 s.result.1 s.result.2 s.result.3 = record { first = s.ensures.first; second = s.ensures.second; third = s.ensures.third; fourth = s.ensures.fourth } in
+    let b : AreOctets k.destination d.result.0 d.result.1 d.result.2 d.result.3 = record { first = d.ensures.first; second = d.ensures.second; third = d.ensures.third; fourth = d.ensures.fourth } in
+    adds_front c.push_all.result c.args.text.now c.push_all.new.self _ (ends_text c.args.name.now k)
+    (ends_flat c.args.name.now k s.result.0 s.result.1 s.result.2 s.result.3 _ d.result.0 d.result.1 d.result.2 d.result.3 _ a c.from.ensures b c.from-2.ensures)
+    c.push_all.ensures.err

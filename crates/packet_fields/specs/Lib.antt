@@ -1,0 +1,6 @@
+pub mod Frame
+pub mod Ipv4
+pub mod Key
+pub mod KeyOrder
+pub mod KeyText
+pub mod Wire

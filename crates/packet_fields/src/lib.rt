@@ -1,0 +1,19 @@
+//! The fields of a frame that tell its flow, and the text of a flow's key.
+//!
+//! [`fields`] is proved equal to a definition by cases on byte positions (`specs/Frame.antt`), and
+//! [`key_text`] to the key's text (`specs/KeyText.antt`).
+#![tactic(auto)]
+
+mod frame;
+mod ipv4;
+mod key;
+mod laws;
+mod packet;
+mod texts;
+mod wire;
+
+pub use frame::fields;
+pub use key::{Class, FlowKey};
+pub use laws::key_order;
+pub use packet::PacketInfo;
+pub use texts::key_text;

@@ -1,0 +1,5 @@
+pub mod Faults
+pub mod Hex
+pub mod Memory
+pub mod Piece
+pub mod Written

@@ -1,0 +1,30 @@
+//! The ends that bytes come from and go to, and the pieces that a line is made of.
+//!
+//! A [`Source`] tells contracts the bytes that it has left, a [`Sink`] which lists may be what was
+//! written, and both how many of their calls have failed. So a contract above speaks of whole
+//! lists of bytes, and ties each fault that it answers to a call that failed.
+#![tactic(auto)]
+
+mod gate;
+mod link;
+mod memory_sink;
+mod memory_source;
+mod piece;
+mod refusal;
+mod sink;
+mod source;
+mod std_sink;
+mod std_source;
+mod text;
+
+pub use gate::{Gate, OpenGate};
+pub use link::Link;
+pub use memory_sink::MemorySink;
+pub use memory_source::MemorySource;
+pub use piece::{Piece, write_pieces};
+pub use refusal::{Failed, NoMemory};
+pub use sink::{Sink, write_whole};
+pub use source::Source;
+pub use std_sink::StdSink;
+pub use std_source::StdSource;
+pub use text::Text;
