@@ -1,0 +1,5 @@
+pub mod Parts
+pub mod Records
+pub mod SoFar
+pub mod StreamEnds
+pub mod Streams

@@ -1,0 +1,5 @@
+pub mod Capture
+pub mod Next
+pub mod Reading
+pub mod Stream
+pub mod StreamEnd

@@ -1,0 +1,12 @@
+/// A record of a capture.
+#[derive(Clone, Copy, Debug)]
+pub struct Record<'a> {
+    /// Its number, from 0.
+    pub number: u32,
+    /// When its frame was captured, in nanoseconds since the start of 1970.
+    pub nanos: u64,
+    /// The length of its frame on the wire, in bytes.
+    pub original: u32,
+    /// The captured bytes of its frame.
+    pub bytes: &'a [u8],
+}
