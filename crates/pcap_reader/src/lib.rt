@@ -16,11 +16,13 @@ mod laws;
 mod numbers;
 mod reader;
 mod record;
+#[cfg(test)]
+mod tests;
 mod window;
 
 pub use fault::{Break, ReadError};
 pub use form::{Form, Fraction, Order};
 pub use format::{CAPTURE_HEADER, LONGEST, RECORD_HEADER};
 pub use laws::{one_reading, one_stream_end};
-pub use reader::{Progress, Reader};
+pub use reader::{MOST_RECORDS, Progress, Reader};
 pub use record::Record;

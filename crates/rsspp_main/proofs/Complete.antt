@@ -1,0 +1,110 @@
+-- Which status comes, by how the stream of the source's bytes ends.
+use Rattle.std.proofs.Common.{◌≡◌, ◌≢◌, ◌⊎◌, ◌↔◌, inl, inr, ℕ, List, [], refl, sym, subst, Option, None, Some, Result, Ok, Err, IfSome, OnOk, OnErr, ap}
+use Rattle.rss_base.specs.Faults.{NoneFailed, HasCause}
+use Rattle.rss_base.specs.Written.{Gets, GetsFront}
+use Rattle.std.proofs.lemmas.List.{append-nil}
+use Rattle.pcap_reader.specs.Capture.{Captured, IsCapture}
+use Rattle.pcap_reader.specs.StreamEnd.{StreamEnd, EndsStream}
+use Rattle.pcap_reader.specs.StreamEnd as stream
+use Rattle.pcap_reader.specs.declared.fault.Break.{Break}
+use Rattle.pcap_reader.proofs.StreamEnds.{one_stream_end}
+use Rattle.packet_fields.specs.declared.packet.PacketInfo.{PacketInfo}
+use Rattle.rsspp_main.specs.declared.fault.TopFault.{TopFault}
+use Rattle.rsspp_main.specs.declared.fault.TopFault.TheVariants.{Words, Capture, ReadFault, WriteFault, NoMemory, TooMany}
+use Rattle.rsspp_main.specs.declared.words.Request.{Request}
+use Rattle.rsspp_main.specs.Gather.{Accepts}
+use Rattle.rsspp_main.specs.Notes.{Says}
+use Rattle.rsspp_main.specs.Run.{Ends, Explains, Answers, text_of}
+use Rattle.rsspp_main.specs.Status.{status_of}
+
+-- what the writing of a line says of the notes
+pub said : {E : Type 0} (r : Result (Unit {0}) E) (before now : ℕ) (held holds : List ℕ → Type 0) (line : List ℕ) → OnOk r (Gets held holds line) → OnErr r (GetsFront held holds line) → HasCause before now r → Says before now held holds line
+said (Ok u) before now held holds line ok err cause = record { front = (line, [], sym (append-nil line), ok); whole = λ quiet. ok }
+said (Err e) before now held holds line ok err cause = record { front = err; whole = λ quiet. absurd (quiet cause.failed) }
+
+known : (left : Option (List ℕ)) (bytes : List ℕ) (P : List ℕ → Type 0) → left ≡ Some bytes → IfSome left P → P bytes
+known left bytes P e h = subst (λ (o : Option (List ℕ)). IfSome o P) e h
+
+-- an accepted capture ends behind its last record
+accepted_ends : (limit : ℕ) (left : Option (List ℕ)) (bytes : List ℕ) → left ≡ Some bytes → (records : List Captured) → Accepts limit left records → EndsStream limit bytes stream.Whole
+accepted_ends limit left bytes told records a = (records, known left bytes (λ b. IsCapture b records) told a.1, a.0)
+
+-- the end of the stream that an outcome tells: of a read fault and of want of memory none is told
+pub Tells : ℕ → List ℕ → Ends → Ends → Option TopFault → Type 0
+Tells limit bytes old new None = EndsStream limit bytes stream.Whole
+Tells limit bytes old new (Some (Words w)) = ⊥
+Tells limit bytes old new (Some (Capture e)) = EndsStream limit bytes (stream.Broken e)
+Tells limit bytes old new (Some ReadFault) = NoneFailed old.read_faults new.read_faults → ⊥
+Tells limit bytes old new (Some WriteFault) = EndsStream limit bytes stream.Whole × (NoneFailed old.write_faults new.write_faults → ⊥)
+Tells limit bytes old new (Some NoMemory) = Unit {0}
+Tells limit bytes old new (Some (TooMany n)) = EndsStream limit bytes stream.TooMany
+
+tells : (limit : ℕ) (text : List PacketInfo → List ℕ) (old new : Ends) (bytes : List ℕ) → old.left ≡ Some bytes → (fault : Option TopFault) → Explains limit text old new fault → Tells limit bytes old new fault
+unfolding Tells
+tells limit text old new bytes told None h = accepted_ends limit old.left bytes told h.0 h.1
+tells limit text old new bytes told (Some (Words w)) h = h
+tells limit text old new bytes told (Some (Capture e)) h = known old.left bytes (λ b. EndsStream limit b (stream.Broken e)) told h.0
+tells limit text old new bytes told (Some ReadFault) h = λ quiet. quiet h.0
+tells limit text old new bytes told (Some WriteFault) h = (accepted_ends limit old.left bytes told h.1.0 h.1.1, λ calm. calm h.0)
+tells limit text old new bytes told (Some NoMemory) h = tt
+tells limit text old new bytes told (Some (TooMany n)) h = known old.left bytes (λ b. EndsStream limit b stream.TooMany) told h.0.1
+
+done_by : (limit : ℕ) (old new : Ends) (bytes : List ℕ) → EndsStream limit bytes stream.Whole → NoneFailed old.read_faults new.read_faults → NoneFailed old.write_faults new.write_faults → (fault : Option TopFault) → Tells limit bytes old new fault → (status_of fault ≡ 0) ⊎ (status_of fault ≡ 6)
+unfolding Tells
+done_by limit old new bytes end quiet calm None t = inl refl
+done_by limit old new bytes end quiet calm (Some (Words w)) t = absurd t
+done_by limit old new bytes end quiet calm (Some (Capture e)) t = let same = one_stream_end limit bytes stream.Whole (stream.Broken e) end t in cc
+done_by limit old new bytes end quiet calm (Some ReadFault) t = absurd (t quiet)
+done_by limit old new bytes end quiet calm (Some WriteFault) t = absurd (t.1 calm)
+done_by limit old new bytes end quiet calm (Some NoMemory) t = inr refl
+done_by limit old new bytes end quiet calm (Some (TooMany n)) t = let same = one_stream_end limit bytes stream.Whole stream.TooMany end t in cc
+
+broken_by : (limit : ℕ) (old new : Ends) (bytes : List ℕ) (e : Break) → EndsStream limit bytes (stream.Broken e) → NoneFailed old.read_faults new.read_faults → (fault : Option TopFault) → Tells limit bytes old new fault → (status_of fault ≡ 3) ⊎ (status_of fault ≡ 6)
+unfolding Tells
+broken_by limit old new bytes e end quiet None t = let same = one_stream_end limit bytes (stream.Broken e) stream.Whole end t in cc
+broken_by limit old new bytes e end quiet (Some (Words w)) t = absurd t
+broken_by limit old new bytes e end quiet (Some (Capture f)) t = inl refl
+broken_by limit old new bytes e end quiet (Some ReadFault) t = absurd (t quiet)
+broken_by limit old new bytes e end quiet (Some WriteFault) t = let same = one_stream_end limit bytes (stream.Broken e) stream.Whole end t.0 in cc
+broken_by limit old new bytes e end quiet (Some NoMemory) t = inr refl
+broken_by limit old new bytes e end quiet (Some (TooMany n)) t = let same = one_stream_end limit bytes (stream.Broken e) stream.TooMany end t in cc
+
+too_many_by : (limit : ℕ) (old new : Ends) (bytes : List ℕ) → EndsStream limit bytes stream.TooMany → NoneFailed old.read_faults new.read_faults → (fault : Option TopFault) → Tells limit bytes old new fault → (status_of fault ≡ 7) ⊎ (status_of fault ≡ 6)
+unfolding Tells
+too_many_by limit old new bytes end quiet None t = let same = one_stream_end limit bytes stream.TooMany stream.Whole end t in cc
+too_many_by limit old new bytes end quiet (Some (Words w)) t = absurd t
+too_many_by limit old new bytes end quiet (Some (Capture f)) t = let same = one_stream_end limit bytes stream.TooMany (stream.Broken f) end t in cc
+too_many_by limit old new bytes end quiet (Some ReadFault) t = absurd (t quiet)
+too_many_by limit old new bytes end quiet (Some WriteFault) t = let same = one_stream_end limit bytes stream.TooMany stream.Whole end t.0 in cc
+too_many_by limit old new bytes end quiet (Some NoMemory) t = inr refl
+too_many_by limit old new bytes end quiet (Some (TooMany n)) t = inl refl
+
+pub done : (request : Option Request) (limit : ℕ) (old new : Ends) (fault : Option TopFault) → Answers request limit old new fault →
+    (bytes : List ℕ) → request ≢ None → old.left ≡ Some bytes → EndsStream limit bytes stream.Whole → NoneFailed old.read_faults new.read_faults → NoneFailed old.write_faults new.write_faults → (status_of fault ≡ 0) ⊎ (status_of fault ≡ 6)
+done None limit old new fault a bytes asks told end quiet calm = absurd (asks refl)
+done (Some request) limit old new fault a bytes asks told end quiet calm = done_by limit old new bytes end quiet calm fault (tells limit (text_of request) old new bytes told fault a)
+
+pub broken : (request : Option Request) (limit : ℕ) (old new : Ends) (fault : Option TopFault) → Answers request limit old new fault →
+    (bytes : List ℕ) (e : Break) → request ≢ None → old.left ≡ Some bytes → EndsStream limit bytes (stream.Broken e) → NoneFailed old.read_faults new.read_faults → (status_of fault ≡ 3) ⊎ (status_of fault ≡ 6)
+broken None limit old new fault a bytes e asks told end quiet = absurd (asks refl)
+broken (Some request) limit old new fault a bytes e asks told end quiet = broken_by limit old new bytes e end quiet fault (tells limit (text_of request) old new bytes told fault a)
+
+pub too_many : (request : Option Request) (limit : ℕ) (old new : Ends) (fault : Option TopFault) → Answers request limit old new fault →
+    (bytes : List ℕ) → request ≢ None → old.left ≡ Some bytes → EndsStream limit bytes stream.TooMany → NoneFailed old.read_faults new.read_faults → (status_of fault ≡ 7) ⊎ (status_of fault ≡ 6)
+too_many None limit old new fault a bytes asks told end quiet = absurd (asks refl)
+too_many (Some request) limit old new fault a bytes asks told end quiet = too_many_by limit old new bytes end quiet fault (tells limit (text_of request) old new bytes told fault a)
+
+-- a request's run never refuses words
+not_refused : (limit : ℕ) (text : List PacketInfo → List ℕ) (old new : Ends) (fault : Option TopFault) → Explains limit text old new fault → status_of fault ≡ 2 → ⊥
+not_refused limit text old new None h e = cc
+not_refused limit text old new (Some (Words w)) h e = h
+not_refused limit text old new (Some (Capture f)) h e = cc
+not_refused limit text old new (Some (TooMany n)) h e = cc
+not_refused limit text old new (Some ReadFault) h e = cc
+not_refused limit text old new (Some WriteFault) h e = cc
+not_refused limit text old new (Some NoMemory) h e = cc
+
+-- words are refused exactly where they make no request
+pub words : (request : Option Request) (limit : ℕ) (old new : Ends) (fault : Option TopFault) → Answers request limit old new fault → (status_of fault ≡ 2) ↔ (request ≡ None)
+words None limit old new fault a = (λ e. refl, λ no. ap status_of a.0)
+words (Some request) limit old new fault a = (λ e. absurd (not_refused limit (text_of request) old new fault a e), λ no. cc)

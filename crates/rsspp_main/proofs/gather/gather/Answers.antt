@@ -1,0 +1,64 @@
+use Rattle.std.proofs.Common.{rules, refl, ◌+◌, ◌<◌, sym, ap, ◌∙◌, List, length, map, [], ◌∷◌, ◌++◌, arith, subst, Ok, length-append}
+use Rattle.packet_fields.specs.declared.packet.PacketInfo.{PacketInfo}
+use Rattle.pcap_reader.proofs.Streams.{on_not_err}
+use Rattle.rsspp_main.specs.Packets.{packet_of}
+use Rattle.rsspp_main.specs.Table.{IsTable}
+use Rattle.rsspp_main.proofs.Gathered.{refused_at_start, next_none, next_some, too_many, packets-push, same_length}
+use Rattle.rsspp_main.proofs.gather.gather.Goals as goal
+
+pub returns-in-Err-clause-refused : goal.returns-in-Err-clause-refused
+returns-in-Err-clause-refused g c = rw c.fault_of.ensures (refused_at_start c.args.limit _ c.in-Err.error c.in-Err.ensures.refused)
+
+pub returns-in-Ok-None-clause-end : goal.returns-in-Ok-None-clause-end
+returns-in-Ok-None-clause-end g c =
+    let left = g.S.Source.left in
+    let so_far = c.packets.invariant in
+    let next = c.next_packet.ensures.proceeds in
+    (next_none (left c.args.source.now) (left c.packets.source) (left c.next_packet.new.source) c.packets.reader c.next_packet.new.reader next.0 so_far.records.0
+    (sym (c.in-Ok-None.is ∙ ap Ok c.in-Ok-None.field-0-is) ∙ next.1) so_far.going next.2 so_far.records.3).1
+
+pub packets-preserved : goal.packets-preserved
+packets-preserved g c =
+    let left = g.S.Source.left in
+    let so_far = c.packets.invariant in
+    let next = c.next_packet.ensures.proceeds in
+    let p = c.in-Ok-Some.packet in
+    let rs = so_far.records.0 in
+    let more = next_some (left c.args.source.now) (left c.packets.source) (left c.next_packet.new.source) c.packets.reader c.next_packet.new.reader next.0 rs p
+    (sym (c.in-Ok-Some.is ∙ ap Ok c.in-Ok-Some.field-0-is) ∙ next.1) so_far.going next.2 so_far.records.3 in
+    let few : length (map packet_of rs) < 4294967295 = omega (arith, same_length rs, so_far.records.1, c.packets-test.true, c.requires) in
+    let added = on_not_err c.add.result (search rules) (c.add.ensures (map packet_of rs) few so_far.records.2) in
+    record {
+      records = (
+        rs ++ more.0 ∷ [],
+        length-append rs (more.0 ∷ []) ∙ ap (λ n. n + 1) so_far.records.1,
+        subst (λ (xs : List PacketInfo). IsTable g.W.FlowWork.opening g.W.FlowWork.after g.W.FlowWork.stands_for xs c.add.new.table)
+            (ap (λ (q : PacketInfo). map packet_of rs ++ q ∷ []) more.1.packet ∙ sym (packets-push rs more.0)) added,
+        more.1.so_far,
+      );
+      given = more.1.given ∙ ap (λ n. n + 1) so_far.given;
+      going = more.1.going;
+      quiet = (c.in-Ok-Some.ensures.cause so_far.going).answer ∙ so_far.quiet;
+      origin = c.next_packet.ensures.origin ∙ so_far.origin;
+    }
+
+pub returns-in-Ok-Some-next_packet-clause-refused : goal.returns-in-Ok-Some-next_packet-clause-refused
+returns-in-Ok-Some-next_packet-clause-refused g c =
+    let left = g.S.Source.left in
+    let so_far = c.packets.invariant in
+    let next = c.next_packet-2.ensures.proceeds in
+    let is = c.in-Ok-Some-next_packet in
+    let p = is.field-0-0 in
+    let rs = so_far.records.0 in
+    let more = next_some (left c.args.source.now) (left c.packets.source) (left c.next_packet-2.new.source) c.packets.reader c.next_packet-2.new.reader next.0 rs p
+    (sym (is.is ∙ ap Ok is.field-0-is) ∙ next.1) so_far.going next.2 so_far.records.3 in
+    (refl, too_many c.args.limit (left c.args.source.now) (left c.next_packet-2.new.source) c.packets.reader c.next_packet-2.new.reader rs p more.0 more.1 (omega (arith, so_far.records.1, c.packets-test.false, c.packets.auto.counter-end)))
+
+pub returns-in-Ok-None-next_packet-clause-end : goal.returns-in-Ok-None-next_packet-clause-end
+returns-in-Ok-None-next_packet-clause-end g c =
+    let left = g.S.Source.left in
+    let so_far = c.packets.invariant in
+    let next = c.next_packet-2.ensures.proceeds in
+    let is = c.in-Ok-None-next_packet in
+    (next_none (left c.args.source.now) (left c.packets.source) (left c.next_packet-2.new.source) c.packets.reader c.next_packet-2.new.reader next.0 so_far.records.0
+    (sym (is.is ∙ ap Ok is.field-0-is) ∙ next.1) so_far.going next.2 so_far.records.3).1

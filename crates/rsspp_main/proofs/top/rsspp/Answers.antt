@@ -1,0 +1,32 @@
+use Rattle.std.proofs.Common.{None, Some}
+use Rattle.rsspp_main.proofs.Complete.{said, done, broken, too_many, words}
+use Rattle.rsspp_main.proofs.top.rsspp.Goals as goal
+
+pub returns-in-Err-clause-outcome : goal.returns-in-Err-clause-outcome
+returns-in-Err-clause-outcome g c = (
+  Some c.in-Err.fault,
+  c.status.ensures,
+  c.in-Err.ensures.outcome,
+  said c.fault_line.result _ _ _ _ _ c.fault_line.ensures.ok c.fault_line.ensures.err c.fault_line.ensures.cause,
+)
+
+pub returns-in-Err-clause-words : goal.returns-in-Err-clause-words
+returns-in-Err-clause-words g c = rw c.status.ensures (words _ _ _ _ (Some c.in-Err.fault) c.in-Err.ensures.outcome)
+
+pub returns-in-Err-clause-done : goal.returns-in-Err-clause-done
+returns-in-Err-clause-done g c = rw c.status.ensures (done _ _ _ _ (Some c.in-Err.fault) c.in-Err.ensures.outcome)
+
+pub returns-in-Err-clause-broken : goal.returns-in-Err-clause-broken
+returns-in-Err-clause-broken g c = rw c.status.ensures (broken _ _ _ _ (Some c.in-Err.fault) c.in-Err.ensures.outcome)
+
+pub returns-in-Err-clause-too_many : goal.returns-in-Err-clause-too_many
+returns-in-Err-clause-too_many g c = rw c.status.ensures (too_many _ _ _ _ (Some c.in-Err.fault) c.in-Err.ensures.outcome)
+
+pub returns-in-Ok-clause-words : goal.returns-in-Ok-clause-words
+returns-in-Ok-clause-words g c = words _ _ _ _ None c.in-Ok.ensures.outcome
+
+pub returns-in-Ok-clause-broken : goal.returns-in-Ok-clause-broken
+returns-in-Ok-clause-broken g c = broken _ _ _ _ None c.in-Ok.ensures.outcome
+
+pub returns-in-Ok-clause-too_many : goal.returns-in-Ok-clause-too_many
+returns-in-Ok-clause-too_many g c = too_many _ _ _ _ None c.in-Ok.ensures.outcome

@@ -1,0 +1,62 @@
+-- What a run does, and what each of its outcomes says of the bytes that were read and written.
+use Rattle.std.specs.Prelude.{◌≡◌, ◌⊎◌, ℕ, List, map, Option, None, Some}
+use Rattle.std.specs.Io.KnownBytes.{IsAtEnd}
+use Rattle.rss_base.specs.Faults.{Rose}
+use Rattle.rss_base.specs.Written.{Gets, GetsFront}
+use Rattle.pcap_reader.specs.Capture.{Captured}
+use Rattle.packet_fields.specs.declared.packet.PacketInfo.{PacketInfo}
+use Rattle.flow_work.specs.Count.{no_packets, counted, count_text}
+use Rattle.rsspp_main.specs.declared.fault.TopFault.{TopFault}
+use Rattle.rsspp_main.specs.declared.fault.TopFault.TheVariants.{Words, Capture, ReadFault, WriteFault, NoMemory, TooMany}
+use Rattle.rsspp_main.specs.declared.fault.WordFault.TheVariants as word
+use Rattle.rsspp_main.specs.declared.words.Request.{Request}
+use Rattle.rsspp_main.specs.declared.words.Request.TheVariants.{Report}
+use Rattle.rsspp_main.specs.Packets.{packet_of}
+use Rattle.rsspp_main.specs.Gather.{Accepts, Refuses}
+use Rattle.rsspp_main.specs.Report.{report}
+
+-- what the ends of a run tell at one moment: the bytes left and the faults of the source, the faults of the output and what it may hold
+pub record Ends : Type 1 where
+  pub left : Option (List ℕ)
+  pub read_faults : ℕ
+  pub write_faults : ℕ
+  pub may_hold : List ℕ → Type 0
+
+abbrev pub ends : Option (List ℕ) → ℕ → ℕ → (List ℕ → Type 0) → Ends
+ends left read_faults write_faults may_hold = record { left = left; read_faults = read_faults; write_faults = write_faults; may_hold = may_hold }
+
+-- nothing was written
+abbrev pub Silent : Ends → Ends → Type 0
+Silent old new = (bytes : List ℕ) → old.may_hold bytes → new.may_hold bytes
+
+-- the capture was accepted, and a front of its report was written
+abbrev pub WroteFront : ℕ → (List PacketInfo → List ℕ) → Ends → Ends → Type 0
+WroteFront limit text old new =
+    (records : List Captured) × Accepts limit old.left records × GetsFront old.may_hold new.may_hold (text (map packet_of records))
+
+-- what each outcome says of a run that reports the packets of a capture in this text; None is the outcome of a run that was done
+abbrev pub Explains : ℕ → (List PacketInfo → List ℕ) → Ends → Ends → Option TopFault → Type 0
+Explains limit text old new None =
+    (records : List Captured) × Accepts limit old.left records × IsAtEnd new.left × Gets old.may_hold new.may_hold (text (map packet_of records))
+Explains limit text old new (Some (Capture e)) = Refuses limit old.left (Capture e) × (new.read_faults ≡ old.read_faults) × Silent old new
+Explains limit text old new (Some (TooMany n)) = Refuses limit old.left (TooMany n) × (new.read_faults ≡ old.read_faults) × Silent old new
+Explains limit text old new (Some ReadFault) = Rose old.read_faults new.read_faults × Silent old new
+Explains limit text old new (Some WriteFault) = Rose old.write_faults new.write_faults × WroteFront limit text old new
+Explains limit text old new (Some NoMemory) = Silent old new ⊎ WroteFront limit text old new
+Explains limit text old new (Some (Words w)) = ⊥
+
+-- nothing was read or written, and nothing failed
+pub record Untouched (old new : Ends) : Type 0 where
+  pub left : new.left ≡ old.left
+  pub reads : new.read_faults ≡ old.read_faults
+  pub writes : new.write_faults ≡ old.write_faults
+  pub silent : Silent old new
+
+-- the text that a request has of a list of packets
+abbrev pub text_of : Request → List PacketInfo → List ℕ
+text_of Report packets = report no_packets counted count_text packets
+
+-- words that make no request are refused, with nothing read or written; the run of a request is explained
+abbrev pub Answers : Option Request → ℕ → Ends → Ends → Option TopFault → Type 0
+Answers None limit old new fault = (fault ≡ Some (Words word.Words)) × Untouched old new
+Answers (Some request) limit old new fault = Explains limit (text_of request) old new fault

@@ -1,0 +1,45 @@
+ghost use Rattle.std.specs.Prelude.{◌≡◌, Some};
+ghost use Rattle.rsspp_main.specs.Status.{status_of};
+
+use pcap_reader::Break;
+
+/// Why words are refused.
+#[derive(Clone, Copy, Debug, PartialEq, Eq)]
+pub enum WordFault {
+    /// They aren't a list of words that the program knows.
+    Words,
+}
+
+/// Why a run wasn't done.
+#[derive(Clone, Copy, Debug, PartialEq, Eq)]
+pub enum TopFault {
+    /// The words were refused.
+    Words(WordFault),
+    /// The capture breaks so.
+    Capture(Break),
+    /// The source failed to read.
+    ReadFault,
+    /// The output failed to be written.
+    WriteFault,
+    /// Memory was refused.
+    NoMemory,
+    /// The capture has more packets than the limit.
+    TooMany { limit: u32 },
+}
+
+impl TopFault {
+    /// The status that the program ends with: 2 for words, 3 for a capture, 4 for a failed read,
+    /// 5 for a failed write, 6 for memory, 7 for too many packets.
+    pub fn status(&self) -> u8
+        ensures { result ≡ status_of (Some self.now) }
+    {
+        match *self {
+            TopFault::Words(_) => 2,
+            TopFault::Capture(_) => 3,
+            TopFault::ReadFault => 4,
+            TopFault::WriteFault => 5,
+            TopFault::NoMemory => 6,
+            TopFault::TooMany { limit: _ } => 7,
+        }
+    }
+}

@@ -1,0 +1,37 @@
+// Captures of the worked rows.
+use std::alloc::Global;
+use std::test::Fail;
+
+/// The header of a little-endian capture of microseconds, of Ethernet frames.
+pub const HEADER: [u8; 24] = [
+    0xd4, 0xc3, 0xb2, 0xa1, 2, 0, 4, 0, 0, 0, 0, 0, 0, 0, 0, 0, 0, 0, 4, 0, 1, 0, 0, 0,
+];
+
+/// A TCP segment from 66.9.149.187:2794 to 161.142.100.80:1766.
+pub const SEGMENT: [u8; 54] = [
+    0x02, 0, 0, 0, 0, 1, 0x02, 0, 0, 0, 0, 2, 0x08, 0x00, // Ethernet
+    0x45, 0, 0, 0x2e, 0, 1, 0, 0, 0x40, 6, 0, 0, 66, 9, 149, 187, 161, 142, 100, 80, // IPv4
+    0x0a, 0xea, 0x06, 0xe6, 0, 0, 0, 0, 0, 0, 0, 0, 0x50, 2, 0xff, 0xff, 0, 0, 0, 0, // TCP
+];
+
+/// An ARP request of 42 bytes, all zero behind its type.
+pub const ARP: [u8; 42] = [
+    0x02, 0, 0, 0, 0, 1, 0x02, 0, 0, 0, 0, 2, 0x08, 0x06, 0, 0, 0, 0, 0, 0, 0, 0, 0, 0, 0, 0, 0, 0,
+    0, 0, 0, 0, 0, 0, 0, 0, 0, 0, 0, 0, 0, 0,
+];
+
+/// A frame of a record, and its length on the wire.
+pub type Frame<'a> = (&'a [u8], u32);
+
+/// A little-endian capture of these frames, each captured whole at time 0.
+pub fn capture_of(alloc: Global, frames: &[Frame<'_>]) -> Result<Vec<u8>, Fail> {
+    let mut bytes = HEADER.to_vec(alloc)?;
+    for (frame, original) in frames {
+        bytes.extend_from_slice(&[0; 8])?;
+        let captured = u32::try_from(frame.len())?;
+        bytes.extend_from_slice(&captured.to_le_bytes())?;
+        bytes.extend_from_slice(&original.to_le_bytes())?;
+        bytes.extend_from_slice(frame)?;
+    }
+    Ok(bytes)
+}

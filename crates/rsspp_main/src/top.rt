@@ -1,0 +1,94 @@
+// The top call.
+ghost use Rattle.std.specs.Prelude.{◌≡◌, ◌≢◌, ◌⊎◌, ◌↔◌, List, ℕ, Option, None, Some, map, MatchResult};
+ghost use Rattle.std.specs.String.{string_bytes};
+ghost use Rattle.rss_base.specs.Faults.{NoneFailed};
+ghost use Rattle.pcap_reader.specs.StreamEnd.{Whole, Broken, TooMany, EndsStream};
+ghost use Rattle.pcap_reader.specs.declared.fault.Break.{Break};
+ghost use Rattle.rsspp_main.specs.Notes.{Says, note_of};
+ghost use Rattle.rsspp_main.specs.Request.{request_of};
+ghost use Rattle.rsspp_main.specs.Run.{ends, Answers};
+ghost use Rattle.rsspp_main.specs.Status.{status_of};
+ghost use Rattle.rsspp_main.specs.declared.fault.TopFault.{TopFault};
+
+use crate::TopFault;
+use crate::notes::fault_line;
+use crate::run::report_once;
+use crate::words::{Request, read_request};
+use flow_work::Count;
+use rss_base::{Gate, Sink, Source};
+use std::alloc::Global;
+
+/// The most packets of a capture.
+pub const PACKETS: u32 = 100_000_000;
+
+// Does what the words ask for.
+fn run<S: Source, K: Sink>(
+    alloc: Global,
+    words: &[String],
+    source: &mut S,
+    out: &mut K,
+) -> Result<(), TopFault>
+    ensures outcome { let before = ends (S.left source.old) (S.faults source.old) (K.faults out.old) (K.may_hold out.old) in
+        let now = ends (S.left source.new) (S.faults source.new) (K.faults out.new) (K.may_hold out.new) in
+        let answers = Answers (request_of (map string_bytes words.now)) PACKETS before now in
+        MatchResult result (λ _. answers None) (λ fault. answers (Some fault)) }
+    ensures origin { S.origin source.new ≡ S.origin source.old }
+{
+    match read_request(words) {
+        Ok(Request::Report) => report_once(alloc, PACKETS, &Count, source, out),
+        Err(fault) => Err(TopFault::Words(fault)),
+    }
+}
+
+/// Does all that the program does, and answers the status that it ends with.
+///
+/// `words` are those after the program's name, `source` is the capture, `out` gets the report, and
+/// `notes` one line where the status isn't 0. No thread is made, and the gate isn't passed.
+pub fn rsspp<S: Source, K: Sink, F: Sink, G: Gate + Sync>(
+    alloc: Global,
+    words: &[String],
+    source: &mut S,
+    out: &mut K,
+    notes: &mut F,
+    _gate: &G,
+) -> u8
+    // The status is that of one outcome, the notes get the line of that outcome, and the outcome
+    // tells what was read and written, whatever calls failed: with status 0 the source had a whole
+    // capture left and was read to its end, and the output got the report of its packets.
+    ensures outcome { let before = ends (S.left source.old) (S.faults source.old) (K.faults out.old) (K.may_hold out.old) in
+        let now = ends (S.left source.new) (S.faults source.new) (K.faults out.new) (K.may_hold out.new) in
+        (fault : Option TopFault) × (result ≡ status_of fault)
+        × Answers (request_of (map string_bytes words.now)) PACKETS before now fault
+        × Says (F.faults notes.old) (F.faults notes.new) (F.may_hold notes.old) (F.may_hold notes.new) (note_of fault) }
+
+    // Words are refused exactly where they make no request.
+    ensures words { (result ≡ 2) ↔ (request_of (map string_bytes words.now) ≡ None) }
+
+    // A whole capture is reported where no call fails, unless memory runs out.
+    ensures done { (bytes : List ℕ) → request_of (map string_bytes words.now) ≢ None → S.left source.old ≡ Some bytes
+        → EndsStream PACKETS bytes Whole
+        → NoneFailed (S.faults source.old) (S.faults source.new) → NoneFailed (K.faults out.old) (K.faults out.new)
+        → (result ≡ 0) ⊎ (result ≡ 6) }
+
+    // A broken capture is refused where no read fails, unless memory runs out.
+    ensures broken { (bytes : List ℕ) (e : Break) → request_of (map string_bytes words.now) ≢ None → S.left source.old ≡ Some bytes
+        → EndsStream PACKETS bytes (Broken e)
+        → NoneFailed (S.faults source.old) (S.faults source.new)
+        → (result ≡ 3) ⊎ (result ≡ 6) }
+
+    // So is one of more packets than the limit.
+    ensures too_many { (bytes : List ℕ) → request_of (map string_bytes words.now) ≢ None → S.left source.old ≡ Some bytes
+        → EndsStream PACKETS bytes TooMany
+        → NoneFailed (S.faults source.old) (S.faults source.new)
+        → (result ≡ 7) ⊎ (result ≡ 6) }
+
+    ensures origin { S.origin source.new ≡ S.origin source.old }
+{
+    match run(alloc, words, source, out) {
+        Ok(()) => 0,
+        Err(fault) => {
+            let _ = fault_line(&fault, notes);
+            fault.status()
+        }
+    }
+}
