@@ -1,7 +1,8 @@
 //! The fields of a frame that tell its flow, and the text of a flow's key.
 //!
 //! [`fields`] is proved equal to a definition by cases on byte positions (`specs/Frame.antt`), and
-//! [`key_text`] to the key's text (`specs/KeyText.antt`).
+//! [`key_text`] to the key's text (`specs/KeyText.antt`). A [`RunName`] is a type by which contracts
+//! above name the packets of a whole run.
 #![tactic(auto)]
 
 mod frame;
@@ -9,6 +10,7 @@ mod ipv4;
 mod key;
 mod laws;
 mod packet;
+mod run_name;
 mod texts;
 mod wire;
 
@@ -16,4 +18,5 @@ pub use frame::fields;
 pub use key::{Class, FlowKey};
 pub use laws::key_order;
 pub use packet::PacketInfo;
+pub use run_name::{NoName, RunName};
 pub use texts::key_text;
