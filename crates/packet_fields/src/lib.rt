@@ -20,3 +20,4 @@ pub use laws::key_order;
 pub use packet::PacketInfo;
 pub use run_name::{NoName, RunName};
 pub use texts::key_text;
+pub use wire::{PROTOCOL_TCP, PROTOCOL_UDP};

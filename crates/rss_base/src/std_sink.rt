@@ -10,9 +10,17 @@ pub struct StdSink<W> {
 }
 
 impl<W: Write> StdSink<W> {
-    /// A sink that writes straight through.
+    /// A sink that hands each piece to the writer.
     pub fn new(inner: W) -> StdSink<W> {
         StdSink { inner, faults: 0 }
+    }
+
+    /// Has a writer with a buffer write what it still holds.
+    pub fn flush(&mut self) -> Result<(), Failed> {
+        match self.inner.flush() {
+            Ok(()) => Ok(()),
+            Err(_) => Err(Failed),
+        }
     }
 }
 

@@ -1,5 +1,5 @@
 -- Which status comes, by how the stream of the source's bytes ends.
-use Rattle.std.proofs.Common.{◌≡◌, ◌≢◌, ◌⊎◌, ◌↔◌, inl, inr, ℕ, List, [], refl, sym, subst, Option, None, Some, Result, Ok, Err, IfSome, OnOk, OnErr, ap}
+use Rattle.std.proofs.Common.{◌≡◌, ◌⊎◌, ◌↔◌, inl, inr, ℕ, List, [], refl, sym, subst, Option, None, Some, Result, Ok, Err, IfSome, OnOk, OnErr, ap}
 use Rattle.rss_base.specs.Faults.{NoneFailed, HasCause}
 use Rattle.rss_base.specs.Written.{Gets, GetsFront}
 use Rattle.std.proofs.lemmas.List.{append-nil}
@@ -11,10 +11,13 @@ use Rattle.pcap_reader.proofs.StreamEnds.{one_stream_end}
 use Rattle.packet_fields.specs.declared.packet.PacketInfo.{PacketInfo}
 use Rattle.rsspp_main.specs.declared.fault.TopFault.{TopFault}
 use Rattle.rsspp_main.specs.declared.fault.TopFault.TheVariants.{Words, Capture, ReadFault, WriteFault, NoMemory, TooMany}
+use Rattle.flow_work.specs.declared.work_name.WorkName.{WorkName}
+use Rattle.traffic_gen.specs.Traffic.{traffic}
 use Rattle.rsspp_main.specs.declared.words.Request.{Request}
+use Rattle.rsspp_main.specs.declared.words.Request.TheVariants.{Report, Make}
 use Rattle.rsspp_main.specs.Gather.{Accepts}
 use Rattle.rsspp_main.specs.Notes.{Says}
-use Rattle.rsspp_main.specs.Run.{Ends, Explains, Answers, text_of}
+use Rattle.rsspp_main.specs.Run.{Ends, Explains, ExplainsText, Answers, report_by}
 use Rattle.rsspp_main.specs.Status.{status_of}
 
 -- what the writing of a line says of the notes
@@ -79,22 +82,40 @@ too_many_by limit old new bytes end quiet (Some WriteFault) t = let same = one_s
 too_many_by limit old new bytes end quiet (Some NoMemory) t = inr refl
 too_many_by limit old new bytes end quiet (Some (TooMany n)) t = inl refl
 
+-- the answer to a request to report is explained
+reported : (request : Option Request) (work : WorkName) (limit : ℕ) (old new : Ends) (fault : Option TopFault) → request ≡ Some (Report work) → Answers request limit old new fault → Explains limit (report_by work) old new fault
+reported request work limit old new fault is a = subst (λ (r : Option Request). Answers r limit old new fault) is a
+
 pub done : (request : Option Request) (limit : ℕ) (old new : Ends) (fault : Option TopFault) → Answers request limit old new fault →
-    (bytes : List ℕ) → request ≢ None → old.left ≡ Some bytes → EndsStream limit bytes stream.Whole → NoneFailed old.read_faults new.read_faults → NoneFailed old.write_faults new.write_faults → (status_of fault ≡ 0) ⊎ (status_of fault ≡ 6)
-done None limit old new fault a bytes asks told end quiet calm = absurd (asks refl)
-done (Some request) limit old new fault a bytes asks told end quiet calm = done_by limit old new bytes end quiet calm fault (tells limit (text_of request) old new bytes told fault a)
+    (work : WorkName) (bytes : List ℕ) → request ≡ Some (Report work) → old.left ≡ Some bytes → EndsStream limit bytes stream.Whole → NoneFailed old.read_faults new.read_faults → NoneFailed old.write_faults new.write_faults → (status_of fault ≡ 0) ⊎ (status_of fault ≡ 6)
+done request limit old new fault a work bytes is told end quiet calm =
+    done_by limit old new bytes end quiet calm fault (tells limit (report_by work) old new bytes told fault (reported request work limit old new fault is a))
 
 pub broken : (request : Option Request) (limit : ℕ) (old new : Ends) (fault : Option TopFault) → Answers request limit old new fault →
-    (bytes : List ℕ) (e : Break) → request ≢ None → old.left ≡ Some bytes → EndsStream limit bytes (stream.Broken e) → NoneFailed old.read_faults new.read_faults → (status_of fault ≡ 3) ⊎ (status_of fault ≡ 6)
-broken None limit old new fault a bytes e asks told end quiet = absurd (asks refl)
-broken (Some request) limit old new fault a bytes e asks told end quiet = broken_by limit old new bytes e end quiet fault (tells limit (text_of request) old new bytes told fault a)
+    (work : WorkName) (bytes : List ℕ) (e : Break) → request ≡ Some (Report work) → old.left ≡ Some bytes → EndsStream limit bytes (stream.Broken e) → NoneFailed old.read_faults new.read_faults → (status_of fault ≡ 3) ⊎ (status_of fault ≡ 6)
+broken request limit old new fault a work bytes e is told end quiet =
+    broken_by limit old new bytes e end quiet fault (tells limit (report_by work) old new bytes told fault (reported request work limit old new fault is a))
 
 pub too_many : (request : Option Request) (limit : ℕ) (old new : Ends) (fault : Option TopFault) → Answers request limit old new fault →
-    (bytes : List ℕ) → request ≢ None → old.left ≡ Some bytes → EndsStream limit bytes stream.TooMany → NoneFailed old.read_faults new.read_faults → (status_of fault ≡ 7) ⊎ (status_of fault ≡ 6)
-too_many None limit old new fault a bytes asks told end quiet = absurd (asks refl)
-too_many (Some request) limit old new fault a bytes asks told end quiet = too_many_by limit old new bytes end quiet fault (tells limit (text_of request) old new bytes told fault a)
+    (work : WorkName) (bytes : List ℕ) → request ≡ Some (Report work) → old.left ≡ Some bytes → EndsStream limit bytes stream.TooMany → NoneFailed old.read_faults new.read_faults → (status_of fault ≡ 7) ⊎ (status_of fault ≡ 6)
+too_many request limit old new fault a work bytes is told end quiet =
+    too_many_by limit old new bytes end quiet fault (tells limit (report_by work) old new bytes told fault (reported request work limit old new fault is a))
 
--- a request's run never refuses words
+made_by : (text : List ℕ) (old new : Ends) → NoneFailed old.write_faults new.write_faults → (fault : Option TopFault) → ExplainsText text old new fault → status_of fault ≡ 0
+made_by text old new calm None h = refl
+made_by text old new calm (Some (Words w)) h = absurd h
+made_by text old new calm (Some (Capture e)) h = absurd h
+made_by text old new calm (Some ReadFault) h = absurd h
+made_by text old new calm (Some WriteFault) h = absurd (calm h.1)
+made_by text old new calm (Some NoMemory) h = absurd h
+made_by text old new calm (Some (TooMany n)) h = absurd h
+
+pub made : (request : Option Request) (limit : ℕ) (old new : Ends) (fault : Option TopFault) → Answers request limit old new fault →
+    (count number : ℕ) → request ≡ Some (Make count number) → NoneFailed old.write_faults new.write_faults → status_of fault ≡ 0
+made request limit old new fault a count number is calm =
+    made_by (traffic count number) old new calm fault (subst (λ (r : Option Request). Answers r limit old new fault) is a)
+
+-- the run of a request never refuses words
 not_refused : (limit : ℕ) (text : List PacketInfo → List ℕ) (old new : Ends) (fault : Option TopFault) → Explains limit text old new fault → status_of fault ≡ 2 → ⊥
 not_refused limit text old new None h e = cc
 not_refused limit text old new (Some (Words w)) h e = h
@@ -104,7 +125,17 @@ not_refused limit text old new (Some ReadFault) h e = cc
 not_refused limit text old new (Some WriteFault) h e = cc
 not_refused limit text old new (Some NoMemory) h e = cc
 
+text_not_refused : (text : List ℕ) (old new : Ends) (fault : Option TopFault) → ExplainsText text old new fault → status_of fault ≡ 2 → ⊥
+text_not_refused text old new None h e = cc
+text_not_refused text old new (Some (Words w)) h e = h
+text_not_refused text old new (Some (Capture f)) h e = h
+text_not_refused text old new (Some (TooMany n)) h e = h
+text_not_refused text old new (Some ReadFault) h e = h
+text_not_refused text old new (Some WriteFault) h e = cc
+text_not_refused text old new (Some NoMemory) h e = h
+
 -- words are refused exactly where they make no request
 pub words : (request : Option Request) (limit : ℕ) (old new : Ends) (fault : Option TopFault) → Answers request limit old new fault → (status_of fault ≡ 2) ↔ (request ≡ None)
 words None limit old new fault a = (λ e. refl, λ no. ap status_of a.0)
-words (Some request) limit old new fault a = (λ e. absurd (not_refused limit (text_of request) old new fault a e), λ no. cc)
+words (Some (Report work)) limit old new fault a = (λ e. absurd (not_refused limit (report_by work) old new fault a e), λ no. cc)
+words (Some (Make count number)) limit old new fault a = (λ e. absurd (text_not_refused (traffic count number) old new fault a e), λ no. cc)

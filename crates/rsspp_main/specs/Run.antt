@@ -6,11 +6,17 @@ use Rattle.rss_base.specs.Written.{Gets, GetsFront}
 use Rattle.pcap_reader.specs.Capture.{Captured}
 use Rattle.packet_fields.specs.declared.packet.PacketInfo.{PacketInfo}
 use Rattle.flow_work.specs.Count.{no_packets, counted, count_text}
+use Rattle.flow_work.specs.TcpFlags.{no_flags, flags_after, flags_text}
+use Rattle.flow_work.specs.Gaps.{no_gap, gap_after, gap_text}
+use Rattle.flow_work.specs.OrderFold.{folded, order_text}
+use Rattle.flow_work.specs.declared.work_name.WorkName.{WorkName}
+use Rattle.flow_work.specs.declared.work_name.WorkName.TheVariants.{Count, TcpFlags, Gaps, OrderFold}
+use Rattle.traffic_gen.specs.Traffic.{traffic}
 use Rattle.rsspp_main.specs.declared.fault.TopFault.{TopFault}
 use Rattle.rsspp_main.specs.declared.fault.TopFault.TheVariants.{Words, Capture, ReadFault, WriteFault, NoMemory, TooMany}
 use Rattle.rsspp_main.specs.declared.fault.WordFault.TheVariants as word
 use Rattle.rsspp_main.specs.declared.words.Request.{Request}
-use Rattle.rsspp_main.specs.declared.words.Request.TheVariants.{Report}
+use Rattle.rsspp_main.specs.declared.words.Request.TheVariants.{Report, Make}
 use Rattle.rsspp_main.specs.Packets.{packet_of}
 use Rattle.rsspp_main.specs.Gather.{Accepts, Refuses}
 use Rattle.rsspp_main.specs.Report.{report}
@@ -52,11 +58,25 @@ pub record Untouched (old new : Ends) : Type 0 where
   pub writes : new.write_faults ≡ old.write_faults
   pub silent : Silent old new
 
--- the text that a request has of a list of packets
-abbrev pub text_of : Request → List PacketInfo → List ℕ
-text_of Report packets = report no_packets counted count_text packets
+-- what each outcome says of a run that writes this text and reads nothing
+abbrev pub ExplainsText : List ℕ → Ends → Ends → Option TopFault → Type 0
+ExplainsText text old new None = Gets old.may_hold new.may_hold text × (new.left ≡ old.left) × (new.read_faults ≡ old.read_faults)
+ExplainsText text old new (Some WriteFault) = GetsFront old.may_hold new.may_hold text × Rose old.write_faults new.write_faults × (new.left ≡ old.left) × (new.read_faults ≡ old.read_faults)
+ExplainsText text old new (Some (Capture e)) = ⊥
+ExplainsText text old new (Some (TooMany n)) = ⊥
+ExplainsText text old new (Some ReadFault) = ⊥
+ExplainsText text old new (Some NoMemory) = ⊥
+ExplainsText text old new (Some (Words w)) = ⊥
 
--- words that make no request are refused, with nothing read or written; the run of a request is explained
+-- the report of a list of packets by a work
+abbrev pub report_by : WorkName → List PacketInfo → List ℕ
+report_by Count packets = report no_packets counted count_text packets
+report_by TcpFlags packets = report no_flags flags_after flags_text packets
+report_by Gaps packets = report no_gap gap_after gap_text packets
+report_by OrderFold packets = report 0 folded order_text packets
+
+-- words that make no request are refused, with nothing read or written; what a request does is explained
 abbrev pub Answers : Option Request → ℕ → Ends → Ends → Option TopFault → Type 0
 Answers None limit old new fault = (fault ≡ Some (Words word.Words)) × Untouched old new
-Answers (Some request) limit old new fault = Explains limit (text_of request) old new fault
+Answers (Some (Report work)) limit old new fault = Explains limit (report_by work) old new fault
+Answers (Some (Make count number)) limit old new fault = ExplainsText (traffic count number) old new fault

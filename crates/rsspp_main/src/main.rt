@@ -9,6 +9,7 @@ mod flows;
 mod gather;
 mod laws;
 mod notes;
+mod number;
 mod packets;
 mod report;
 mod run;
@@ -21,8 +22,9 @@ pub use fault::{TopFault, WordFault};
 pub use laws::report_keys;
 pub use notes::fault_line;
 use rss_base::{OpenGate, StdSink, StdSource};
+use std::env;
+use std::io::{self, BufWriter};
 use std::process::ExitCode;
-use std::{env, io};
 pub use top::{PACKETS, rsspp};
 pub use words::Request;
 
@@ -35,22 +37,26 @@ fn words_of(rt: &HostRuntime) -> io::Result<Vec<String>> {
     Ok(words)
 }
 
+// The status of a run over standard input, output and error. Output is written in large pieces,
+// so the last of them may fail after the run.
+fn status(rt: &HostRuntime) -> io::Result<u8> {
+    let words = words_of(rt)?;
+    let mut source = StdSource::new(rt.stdin());
+    let mut out = StdSink::new(BufWriter::new(rt.alloc(), rt.stdout())?);
+    let mut notes = StdSink::new(rt.stderr());
+    let alloc = rt.alloc();
+    let status = rsspp(alloc, &words, &mut source, &mut out, &mut notes, &OpenGate);
+    if out.flush().is_err() && status == 0 {
+        let fault = TopFault::WriteFault;
+        let _ = fault_line(&fault, &mut notes);
+        return Ok(fault.status());
+    }
+    Ok(status)
+}
+
 fn main(rt: HostRuntime) -> ExitCode {
-    match words_of(&rt) {
-        Ok(words) => {
-            let mut source = StdSource::new(rt.stdin());
-            let mut out = StdSink::new(rt.stdout());
-            let mut notes = StdSink::new(rt.stderr());
-            let status = rsspp(
-                rt.alloc(),
-                &words,
-                &mut source,
-                &mut out,
-                &mut notes,
-                &OpenGate,
-            );
-            ExitCode::from(status)
-        }
-        Err(_) => ExitCode::from(6),
+    match status(&rt) {
+        Ok(status) => ExitCode::from(status),
+        Err(_) => ExitCode::from(TopFault::NoMemory.status()),
     }
 }

@@ -1,7 +1,9 @@
 // Whole runs over memory ends: worked captures, and calls that fail.
 mod captures;
 mod faults;
+mod forms;
 mod rows;
+mod works;
 
 use crate::rsspp;
 use rss_base::{MemorySink, MemorySource, OpenGate};

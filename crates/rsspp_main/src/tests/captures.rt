@@ -23,6 +23,17 @@ pub const ARP: [u8; 42] = [
 /// A frame of a record, and its length on the wire.
 pub type Frame<'a> = (&'a [u8], u32);
 
+/// A header of another form, with this link type.
+pub fn header_of(magic: [u8; 4], is_big: bool, link: u8) -> [u8; 24] {
+    let mut header = [0; 24];
+    header[..4].copy_from_slice(&magic);
+    let low = if is_big { 1 } else { 0 };
+    header[4 + low] = 2;
+    header[6 + low] = 4;
+    header[20 + 3 * low] = link;
+    header
+}
+
 /// A little-endian capture of these frames, each captured whole at time 0.
 pub fn capture_of(alloc: Global, frames: &[Frame<'_>]) -> Result<Vec<u8>, Fail> {
     let mut bytes = HEADER.to_vec(alloc)?;

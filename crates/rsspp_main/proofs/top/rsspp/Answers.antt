@@ -1,5 +1,5 @@
 use Rattle.std.proofs.Common.{None, Some}
-use Rattle.rsspp_main.proofs.Complete.{said, done, broken, too_many, words}
+use Rattle.rsspp_main.proofs.Complete.{said, done, broken, too_many, made, words}
 use Rattle.rsspp_main.proofs.top.rsspp.Goals as goal
 
 pub returns-in-Err-clause-outcome : goal.returns-in-Err-clause-outcome
@@ -30,3 +30,6 @@ returns-in-Ok-clause-broken g c = broken _ _ _ _ None c.in-Ok.ensures.outcome
 
 pub returns-in-Ok-clause-too_many : goal.returns-in-Ok-clause-too_many
 returns-in-Ok-clause-too_many g c = too_many _ _ _ _ None c.in-Ok.ensures.outcome
+
+pub returns-in-Err-clause-made : goal.returns-in-Err-clause-made
+returns-in-Err-clause-made g c = rw c.status.ensures (made _ _ _ _ (Some c.in-Err.fault) c.in-Err.ensures.outcome)

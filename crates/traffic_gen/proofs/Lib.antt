@@ -1,0 +1,4 @@
+mod Fields
+mod Giving
+mod Making
+mod Records

@@ -1,0 +1,21 @@
+//! Captures that are made from two numbers, for tests and measurements.
+//!
+//! The traffic of a number is defined as one list of bytes (`specs/Traffic.antt`): a capture of
+//! Ethernet frames of TCP and UDP over IPv4, half of them of four large flows. [`make`] writes it,
+//! a [`TrafficSource`] gives it, both byte for byte, and [`info_at`] answers the fields of any of
+//! its packets without making the bytes.
+#![tactic(auto)]
+
+mod ahead;
+mod draw;
+mod frame;
+mod info;
+mod layout;
+mod record;
+mod source;
+mod upcoming;
+mod writing;
+
+pub use info::info_at;
+pub use source::{MOST_RECORDS, TrafficSource};
+pub use writing::make;
