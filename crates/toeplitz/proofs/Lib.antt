@@ -1,0 +1,4 @@
+pub mod BitFields
+pub mod Parts
+pub mod Picks
+pub mod Steps

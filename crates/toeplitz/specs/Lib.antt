@@ -1,0 +1,4 @@
+pub mod Bits
+pub mod Bucket
+pub mod Packet
+pub mod Toeplitz

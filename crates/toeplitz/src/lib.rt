@@ -1,0 +1,20 @@
+//! The Toeplitz hash of the Microsoft RSS definition, and the bucket that a packet's hash chooses.
+//!
+//! [`hash`] is proved equal to an exclusive or over the set bits of its input
+//! (`specs/Toeplitz.antt`), and [`hash_info`] to the hash of what a packet's class has hashed
+//! (`specs/Packet.antt`). [`one_bucket_each`] says that each packet of a list is in one bucket, which
+//! its flow alone decides (`specs/Bucket.antt`).
+#![tactic(auto)]
+
+mod input_hash;
+mod key;
+mod laws;
+mod packet_hash;
+
+pub use input_hash::{MOST_INPUT, hash};
+pub use key::{DEFAULT_KEY, KEY_BYTES, Key};
+pub use laws::one_bucket_each;
+pub use packet_hash::hash_info;
+
+#[cfg(test)]
+mod tests;
