@@ -6,7 +6,7 @@ use crate::FlowWork;
 use packet_fields::PacketInfo;
 use rss_base::{NoMemory, Piece, Text};
 
-/// What the number so far counts, before a packet's length is added to it.
+/// By what the number so far is multiplied, before a packet's length is added to it.
 pub const FACTOR: u32 = 31;
 
 /// Makes one number of the packets' lengths on the wire, which tells in which order they came:

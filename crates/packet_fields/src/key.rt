@@ -1,7 +1,7 @@
 use std::cmp::Ordering;
 
 /// What a packet is, as far as its flow is told.
-#[derive(Clone, Copy, Debug, PartialEq, Eq, PartialOrd, Ord)]
+#[derive(Clone, Copy, Debug, PartialEq, Eq, PartialOrd, Ord, Hash)]
 pub enum Class {
     /// A whole TCP header over IPv4.
     Tcp,
@@ -15,7 +15,7 @@ pub enum Class {
 
 /// The flow that a packet belongs to. A field that its class doesn't have is 0. Keys are compared
 /// field by field, in the order in which they stand here.
-#[derive(Clone, Copy, Debug, PartialEq, Eq, PartialOrd, Ord)]
+#[derive(Clone, Copy, Debug, PartialEq, Eq, PartialOrd, Ord, Hash)]
 pub struct FlowKey {
     pub class: Class,
     /// The source address, of IPv4 as its 32-bit number.

@@ -11,6 +11,8 @@ mod key;
 mod laws;
 mod packet;
 mod run_name;
+#[cfg(test)]
+mod tests;
 mod texts;
 mod wire;
 

@@ -39,13 +39,13 @@ SoFar-break (Some xs) None form rs n e s b same = absurd s
 SoFar-break (Some xs) (Some ys) form rs n e s b same =
     inr (form, ys, record { header = s.0; form_is = s.1; records_are = s.2; ends = subst (λ m. TailBreaks form m ys e) same b })
 
--- as many whole records stand there, and maybe more
-pub SoFar-whole : (left before : Option (List ℕ)) (form : Form) (rs : List Captured) → SoFar left form rs before → IfSome left (λ bytes. (all : List Captured) × (ending : Ending) × Reads bytes all ending × (length rs ≤ length all))
-SoFar-whole None before form rs s = tt
-SoFar-whole (Some xs) None form rs s = absurd s
-SoFar-whole (Some xs) (Some ys) form rs s =
+-- the bytes begin with these whole records
+pub SoFar-begins : (left before : Option (List ℕ)) (form : Form) (rs : List Captured) → SoFar left form rs before → IfSome left (λ bytes. (more : List Captured) × (ending : Ending) × Reads bytes (rs ++ more) ending)
+SoFar-begins None before form rs s = tt
+SoFar-begins (Some xs) None form rs s = absurd s
+SoFar-begins (Some xs) (Some ys) form rs s =
     let later = each_body form (length rs) (length ys) ys (omega arith) in (
-      rs ++ later.0,
+      later.0,
       later.2,
       inr (
         form,
@@ -57,7 +57,6 @@ SoFar-whole (Some xs) (Some ys) form rs s =
           ends = subst (λ m. TailEnds form m later.1 later.2) (sym (length-append rs later.0)) later.4;
         },
       ),
-      simp length-append (omega arith),
     )
 
 -- the source has nothing left where nothing is to come

@@ -13,7 +13,7 @@ use Rattle.pcap_reader.specs.declared.reader.Progress.{Progress}
 use Rattle.pcap_reader.specs.declared.reader.Progress.TheVariants.{Going}
 use Rattle.pcap_reader.specs.Stream.{SoFar, Comes}
 use Rattle.pcap_reader.specs.Reading.{Reading, still, Proceeds, ProceedsFrom, Advances}
-use Rattle.pcap_reader.proofs.SoFar.{SoFar-end, SoFar-push, SoFar-break, SoFar-whole, left_at_end}
+use Rattle.pcap_reader.proofs.SoFar.{SoFar-end, SoFar-push, SoFar-break, SoFar-begins, left_at_end}
 use Rattle.packet_fields.specs.declared.packet.PacketInfo.{PacketInfo}
 use Rattle.std.proofs.lemmas.List.{map-append}
 use Rattle.rsspp_main.specs.Packets.{packet_of, packets_in}
@@ -43,13 +43,13 @@ packets_some (Ok None) p e = absurd (cc)
 packets_some (Ok (Some r)) p e = (r, refl, cc)
 packets_some (Err x) p e = absurd (cc)
 
-packets_err : (a : Result (Option Captured) ReadError) (error : ReadError) → Err error ≡ packets_in a → a ≡ Err error
+pub packets_err : (a : Result (Option Captured) ReadError) (error : ReadError) → Err error ≡ packets_in a → a ≡ Err error
 packets_err (Ok None) error e = cc
 packets_err (Ok (Some r)) error e = cc
 packets_err (Err x) error e = cc
 
 -- a reader that is going on advances
-advanced : (old new : Reading) (b n : Option (List ℕ)) (a : Result (Option Captured) ReadError) → old.progress ≡ Going → Proceeds old new b n a → Advances old new b n a
+pub advanced : (old new : Reading) (b n : Option (List ℕ)) (a : Result (Option Captured) ReadError) → old.progress ≡ Going → Proceeds old new b n a → Advances old new b n a
 advanced old new b n a going h = subst (λ (p : Progress). ProceedsFrom p old new b n a) going h
 
 -- the end of the capture
@@ -98,9 +98,9 @@ next_err limit left b n old new a rs error e going h s given few =
 -- more records than the limit
 pub too_many : (limit : ℕ) (left n : Option (List ℕ)) (old new : Reading) (rs : List Captured) (p : PacketInfo) (r : Captured) → OneMore left n old new rs p r → length rs ≡ limit → IfSome left (λ bytes. (records : List Captured) × (ending : Ending) × Reads bytes records ending × (limit < length records))
 too_many limit left n old new rs p r one full =
-    if_known left (λ bytes. (all : List Captured) × (ending : Ending) × Reads bytes all ending × (length (rs ++ r ∷ []) ≤ length all)) _
-    (λ bytes w. (w.0, w.1, w.2, omega (arith, w.3, length-append rs (r ∷ []))))
-    (SoFar-whole left (still new n) new.form (rs ++ r ∷ []) one.so_far)
+    if_known left (λ bytes. (more : List Captured) × (ending : Ending) × Reads bytes ((rs ++ r ∷ []) ++ more) ending) _
+    (λ bytes w. ((rs ++ r ∷ []) ++ w.0, w.1, w.2, omega (arith, full, length-append (rs ++ r ∷ []) w.0, length-append rs (r ∷ []))))
+    (SoFar-begins left (still new n) new.form (rs ++ r ∷ []) one.so_far)
 
 -- the packets of records and one more
 pub packets-push : (rs : List Captured) (r : Captured) → map packet_of (rs ++ r ∷ []) ≡ map packet_of rs ++ packet_of r ∷ []

@@ -6,6 +6,8 @@ use Rattle.pcap_reader.specs.declared.fault.ReadError.TheVariants as reading
 use Rattle.pcap_reader.specs.Capture.{Captured, IsCapture}
 use Rattle.pcap_reader.specs.StreamEnd.{EndsStream, StreamEnd}
 use Rattle.pcap_reader.specs.StreamEnd as stream
+use Rattle.flow_report.specs.declared.fault.ReportFault.{ReportFault}
+use Rattle.flow_report.specs.declared.fault.ReportFault.TheVariants as writing
 use Rattle.rsspp_main.specs.declared.fault.TopFault.{TopFault}
 use Rattle.rsspp_main.specs.declared.fault.TopFault.TheVariants.{Words, Capture, ReadFault, WriteFault, NoMemory, TooMany}
 
@@ -39,15 +41,7 @@ pub record HasTopCause {T : Type 0} (before now : ℕ) (result : Result T TopFau
   pub later : before ≤ now
   pub answer : MatchResult result (λ _. now ≡ before) (λ fault. MayFail fault before now)
 
--- a write fault comes only where a write failed, and want of memory where none did
-abbrev pub MayFailReport : TopFault → ℕ → ℕ → Type 0
-MayFailReport WriteFault before now = Rose before now
-MayFailReport NoMemory before now = now ≡ before
-MayFailReport ReadFault before now = ⊥
-MayFailReport (Words w) before now = ⊥
-MayFailReport (Capture e) before now = ⊥
-MayFailReport (TooMany n) before now = ⊥
-
-pub record HasReportCause {T : Type 0} (before now : ℕ) (result : Result T TopFault) : Type 0 where
-  pub later : before ≤ now
-  pub answer : MatchResult result (λ _. now ≡ before) (λ fault. MayFailReport fault before now)
+-- a fault of the report, as the fault of the whole
+abbrev pub report_fault : ReportFault → TopFault
+report_fault writing.NoMemory = NoMemory
+report_fault writing.WriteFault = WriteFault

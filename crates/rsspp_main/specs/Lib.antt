@@ -1,9 +1,9 @@
-pub mod Flows
+pub mod Answers
 pub mod Gather
+pub mod Listing
 pub mod Notes
 pub mod Packets
-pub mod Report
 pub mod Request
 pub mod Run
 pub mod Status
-pub mod Table
+pub mod Tables

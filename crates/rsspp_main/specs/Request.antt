@@ -8,9 +8,9 @@ use Rattle.flow_work.specs.declared.work_name.WorkName.{WorkName}
 use Rattle.flow_work.specs.declared.work_name.WorkName.TheVariants.{Count, TcpFlags, Gaps, OrderFold}
 use Rattle.rsspp_main.specs.declared.number.TheConstants.{MOST_DIGITS}
 use Rattle.rsspp_main.specs.declared.words.TheConstants.{MOST_NUMBER}
-use Rattle.traffic_gen.specs.declared.source.TheConstants.{MOST_RECORDS}
+use Rattle.traffic_gen.specs.declared.layout.TheConstants.{MOST_RECORDS}
 use Rattle.rsspp_main.specs.declared.words.Request.{Request}
-use Rattle.rsspp_main.specs.declared.words.Request.TheVariants.{Report, Make}
+use Rattle.rsspp_main.specs.declared.words.Request.TheVariants.{Report, Hash, Make}
 
 -- the number that decimal digits spell behind one
 abbrev pub digits_from : ℕ → List ℕ → ℕ
@@ -46,9 +46,11 @@ make_of (Some count) (Some number) = Some (Make count number)
 make_of (Some count) None = None
 make_of None number = None
 
--- the request that the words make, if they make one: `report`, `report --work NAME` or `make COUNT NUMBER`
+-- the request that the words make, if they make one: `report`, `report --work NAME`, `hash` or `make COUNT NUMBER`
 abbrev pub request_of : List (List ℕ) → Option Request
-request_of (mode ∷ []) = if bytes_eq mode (codes "report") then Some (Report Count) else None
+request_of (mode ∷ []) =
+    if bytes_eq mode (codes "report") then Some (Report Count)
+    else (if bytes_eq mode (codes "hash") then Some Hash else None)
 request_of (mode ∷ second ∷ third ∷ []) =
     if bytes_eq mode (codes "report") then (if bytes_eq second (codes "--work") then option_map Report (work_of third) else None)
     else (if bytes_eq mode (codes "make") then make_of (number_up_to MOST_RECORDS second) (number_up_to MOST_NUMBER third) else None)

@@ -11,15 +11,11 @@ use Rattle.flow_work.specs.Gaps.{no_gap, gap_after, gap_text}
 use Rattle.flow_work.specs.OrderFold.{folded, order_text}
 use Rattle.flow_work.specs.declared.work_name.WorkName.{WorkName}
 use Rattle.flow_work.specs.declared.work_name.WorkName.TheVariants.{Count, TcpFlags, Gaps, OrderFold}
-use Rattle.traffic_gen.specs.Traffic.{traffic}
 use Rattle.rsspp_main.specs.declared.fault.TopFault.{TopFault}
 use Rattle.rsspp_main.specs.declared.fault.TopFault.TheVariants.{Words, Capture, ReadFault, WriteFault, NoMemory, TooMany}
-use Rattle.rsspp_main.specs.declared.fault.WordFault.TheVariants as word
-use Rattle.rsspp_main.specs.declared.words.Request.{Request}
-use Rattle.rsspp_main.specs.declared.words.Request.TheVariants.{Report, Make}
 use Rattle.rsspp_main.specs.Packets.{packet_of}
 use Rattle.rsspp_main.specs.Gather.{Accepts, Refuses}
-use Rattle.rsspp_main.specs.Report.{report}
+use Rattle.flow_report.specs.Report.{report}
 
 -- what the ends of a run tell at one moment: the bytes left and the faults of the source, the faults of the output and what it may hold
 pub record Ends : Type 1 where
@@ -74,9 +70,3 @@ report_by Count packets = report no_packets counted count_text packets
 report_by TcpFlags packets = report no_flags flags_after flags_text packets
 report_by Gaps packets = report no_gap gap_after gap_text packets
 report_by OrderFold packets = report 0 folded order_text packets
-
--- words that make no request are refused, with nothing read or written; what a request does is explained
-abbrev pub Answers : Option Request → ℕ → Ends → Ends → Option TopFault → Type 0
-Answers None limit old new fault = (fault ≡ Some (Words word.Words)) × Untouched old new
-Answers (Some (Report work)) limit old new fault = Explains limit (report_by work) old new fault
-Answers (Some (Make count number)) limit old new fault = ExplainsText (traffic count number) old new fault

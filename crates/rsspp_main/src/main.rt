@@ -4,28 +4,28 @@
 //! status means for the bytes that were read and written. `main` makes the real ends and calls it.
 #![tactic(auto)]
 
+mod defaults;
 mod fault;
-mod flows;
 mod gather;
-mod laws;
+mod listing;
 mod notes;
 mod number;
 mod packets;
-mod report;
 mod run;
+mod spread;
+mod tables;
 #[cfg(test)]
 mod tests;
 mod top;
 mod words;
 
 pub use fault::{TopFault, WordFault};
-pub use laws::report_keys;
 pub use notes::fault_line;
 use rss_base::{OpenGate, StdSink, StdSource};
 use std::env;
 use std::io::{self, BufWriter};
 use std::process::ExitCode;
-pub use top::{PACKETS, rsspp};
+pub use top::rsspp;
 pub use words::Request;
 
 // The words after the program's name.

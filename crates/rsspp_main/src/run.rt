@@ -1,19 +1,36 @@
 // One report, from the bytes of a capture to its text.
-ghost use Rattle.std.specs.Prelude.{◌≡◌, ◌≤◌, ◌<◌, List, ℕ, None, Some, MatchResult};
-ghost use Rattle.rsspp_main.specs.Report.{report};
+ghost use Rattle.std.specs.Prelude.{◌≡◌, None, Some, MatchResult};
+ghost use Rattle.flow_report.specs.Report.{report};
+ghost use Rattle.rsspp_main.specs.Gather.{report_fault};
 ghost use Rattle.rsspp_main.specs.Run.{ends, Explains};
 
 use crate::TopFault;
 use crate::gather::gather;
-use crate::report::write_report;
+use crate::tables::is_any_short;
+use flow_report::{ReportFault, report, standing_tables};
 use flow_work::FlowWork;
+use indirection::Table;
 use rss_base::{Sink, Source};
 use std::alloc::Global;
+use toeplitz::Key;
 
-/// Reads a whole capture, and writes the report of its packets.
+// The fault that a fault of the report is.
+fn fault_of_report(fault: ReportFault) -> TopFault
+    ensures { result ≡ report_fault fault }
+{
+    match fault {
+        ReportFault::NoMemory => TopFault::NoMemory,
+        ReportFault::WriteFault => TopFault::WriteFault,
+    }
+}
+
+/// Reads a whole capture, and writes the report of its packets. Which bucket a packet's flow is in
+/// is decided by the key and the indirection table, and doesn't show in the report.
 pub fn report_once<S: Source, W: FlowWork, K: Sink>(
     alloc: Global,
     limit: u32,
+    key: &Key,
+    spread: &Table,
     work: &W,
     source: &mut S,
     out: &mut K,
@@ -24,9 +41,16 @@ pub fn report_once<S: Source, W: FlowWork, K: Sink>(
         MatchResult result (λ _. explains None) (λ fault. explains (Some fault)) }
     ensures origin { S.origin source.new ≡ S.origin source.old }
 {
-    let table = match gather(alloc, limit, work, source) {
-        Ok(table) => table,
+    let tables = match gather(alloc, limit, key, spread, work, source) {
+        Ok(tables) => tables,
         Err(fault) => return Err(fault),
     };
-    write_report(alloc, work, &table, out)
+    if is_any_short(&tables) {
+        return Err(TopFault::NoMemory);
+    }
+    standing_tables::<W>();
+    match report(alloc, work, &tables, out) {
+        Ok(()) => Ok(()),
+        Err(fault) => Err(fault_of_report(fault)),
+    }
 }

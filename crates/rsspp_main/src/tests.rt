@@ -2,6 +2,7 @@
 mod captures;
 mod faults;
 mod forms;
+mod hashes;
 mod rows;
 mod works;
 

@@ -3,49 +3,25 @@ ghost use Rattle.std.specs.Prelude.{◌≡◌, ◌≤◌, ◌⊎◌, ◌↔◌, 
 ghost use Rattle.std.specs.String.{string_bytes};
 ghost use Rattle.rss_base.specs.Faults.{HasCause, NoneFailed};
 ghost use Rattle.rss_base.specs.Written.{Gets, GetsFront};
-ghost use Rattle.flow_work.specs.declared.work_name.WorkName.{WorkName};
 ghost use Rattle.traffic_gen.specs.Traffic.{traffic};
 ghost use Rattle.pcap_reader.specs.StreamEnd.{Whole, Broken, TooMany, EndsStream};
 ghost use Rattle.pcap_reader.specs.declared.fault.Break.{Break};
 ghost use Rattle.rsspp_main.specs.Notes.{Says, note_of};
 ghost use Rattle.rsspp_main.specs.Request.{request_of};
-ghost use Rattle.rsspp_main.specs.Run.{ends, Explains, Answers, report_by};
+ghost use Rattle.rsspp_main.specs.Answers.{Answers, ReadsCapture};
+ghost use Rattle.rsspp_main.specs.Run.{ends};
 ghost use Rattle.rsspp_main.specs.Status.{status_of};
 ghost use Rattle.rsspp_main.specs.declared.fault.TopFault.{TopFault};
-ghost use Rattle.rsspp_main.specs.declared.words.Request.TheVariants.{Report, Make};
+ghost use Rattle.rsspp_main.specs.declared.words.Request.TheVariants.{Make};
 
 use crate::TopFault;
+use crate::defaults::PACKETS;
 use crate::notes::fault_line;
-use crate::run::report_once;
+use crate::spread::{list_hashes, report};
 use crate::words::{Request, read_request};
-use flow_work::{Count, Gaps, OrderFold, TcpFlags, WorkName};
 use rss_base::{Gate, Sink, Source};
 use std::alloc::Global;
 use traffic_gen::{MOST_RECORDS, make};
-
-/// The most packets of a capture.
-pub const PACKETS: u32 = 100_000_000;
-
-// Reports the capture on the source by a work.
-fn report<S: Source, K: Sink>(
-    alloc: Global,
-    work: WorkName,
-    source: &mut S,
-    out: &mut K,
-) -> Result<(), TopFault>
-    ensures outcome { let before = ends (S.left source.old) (S.faults source.old) (K.faults out.old) (K.may_hold out.old) in
-        let now = ends (S.left source.new) (S.faults source.new) (K.faults out.new) (K.may_hold out.new) in
-        let explains = Explains PACKETS (report_by work) before now in
-        MatchResult result (λ _. explains None) (λ fault. explains (Some fault)) }
-    ensures origin { S.origin source.new ≡ S.origin source.old }
-{
-    match work {
-        WorkName::Count => report_once(alloc, PACKETS, &Count, source, out),
-        WorkName::TcpFlags => report_once(alloc, PACKETS, &TcpFlags, source, out),
-        WorkName::Gaps => report_once(alloc, PACKETS, &Gaps, source, out),
-        WorkName::OrderFold => report_once(alloc, PACKETS, &OrderFold, source, out),
-    }
-}
 
 // Writes a generated capture.
 fn make_capture<K: Sink>(count: u32, number: u32, out: &mut K) -> Result<(), TopFault>
@@ -76,6 +52,7 @@ fn run<S: Source, K: Sink>(
 {
     match read_request(words) {
         Ok(Request::Report(work)) => report(alloc, work, source, out),
+        Ok(Request::Hash) => list_hashes(alloc, source, out),
         Ok(Request::Make { count, number }) => make_capture(count, number, out),
         Err(fault) => Err(TopFault::Words(fault)),
     }
@@ -83,7 +60,7 @@ fn run<S: Source, K: Sink>(
 
 /// Does all that the program does, and answers the status that it ends with.
 ///
-/// `words` are those after the program's name, `source` is the capture, `out` gets the report, and
+/// `words` are those after the program's name, `source` is the capture, `out` gets the output, and
 /// `notes` one line where the status isn't 0. No thread is made, and the gate isn't passed.
 pub fn rsspp<S: Source, K: Sink, F: Sink, G: Gate + Sync>(
     alloc: Global,
@@ -95,7 +72,7 @@ pub fn rsspp<S: Source, K: Sink, F: Sink, G: Gate + Sync>(
 ) -> u8
     // The status is that of one outcome, the notes get the line of that outcome, and the outcome
     // tells what was read and written, whatever calls failed: with status 0 the source had a whole
-    // capture left and was read to its end, and the output got the report of its packets.
+    // capture left and was read to its end, and the output got the whole text of its packets.
     ensures outcome { let before = ends (S.left source.old) (S.faults source.old) (K.faults out.old) (K.may_hold out.old) in
         let now = ends (S.left source.new) (S.faults source.new) (K.faults out.new) (K.may_hold out.new) in
         (fault : Option TopFault) × (result ≡ status_of fault)
@@ -105,20 +82,20 @@ pub fn rsspp<S: Source, K: Sink, F: Sink, G: Gate + Sync>(
     // Words are refused exactly where they make no request.
     ensures words { (result ≡ 2) ↔ (request_of (map string_bytes words.now) ≡ None) }
 
-    // A whole capture is reported where no call fails, unless memory runs out.
-    ensures done { (work : WorkName) (bytes : List ℕ) → request_of (map string_bytes words.now) ≡ Some (Report work) → S.left source.old ≡ Some bytes
+    // A whole capture is reported or listed where no call fails, unless memory runs out.
+    ensures done { (bytes : List ℕ) → ReadsCapture (request_of (map string_bytes words.now)) → S.left source.old ≡ Some bytes
         → EndsStream PACKETS bytes Whole
         → NoneFailed (S.faults source.old) (S.faults source.new) → NoneFailed (K.faults out.old) (K.faults out.new)
         → (result ≡ 0) ⊎ (result ≡ 6) }
 
     // A broken capture is refused where no read fails, unless memory runs out.
-    ensures broken { (work : WorkName) (bytes : List ℕ) (e : Break) → request_of (map string_bytes words.now) ≡ Some (Report work) → S.left source.old ≡ Some bytes
+    ensures broken { (bytes : List ℕ) (e : Break) → ReadsCapture (request_of (map string_bytes words.now)) → S.left source.old ≡ Some bytes
         → EndsStream PACKETS bytes (Broken e)
         → NoneFailed (S.faults source.old) (S.faults source.new)
         → (result ≡ 3) ⊎ (result ≡ 6) }
 
     // So is one of more packets than the limit.
-    ensures too_many { (work : WorkName) (bytes : List ℕ) → request_of (map string_bytes words.now) ≡ Some (Report work) → S.left source.old ≡ Some bytes
+    ensures too_many { (bytes : List ℕ) → ReadsCapture (request_of (map string_bytes words.now)) → S.left source.old ≡ Some bytes
         → EndsStream PACKETS bytes TooMany
         → NoneFailed (S.faults source.old) (S.faults source.new)
         → (result ≡ 7) ⊎ (result ≡ 6) }

@@ -14,6 +14,8 @@ pub enum Request {
     /// `report`, or `report --work NAME`: the flows of the capture on the source, each with the
     /// line of that work.
     Report(WorkName),
+    /// `hash`: the hash, bucket and core of each packet of the capture on the source.
+    Hash,
     /// `make COUNT NUMBER`: a generated capture of `count` packets, the traffic of `number`.
     Make { count: u32, number: u32 },
 }
@@ -44,6 +46,8 @@ fn lone_word(mode: &str) -> Option<Request>
 {
     if mode == "report" {
         Some(Request::Report(WorkName::Count))
+    } else if mode == "hash" {
+        Some(Request::Hash)
     } else {
         None
     }

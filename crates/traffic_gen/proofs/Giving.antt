@@ -48,14 +48,18 @@ pub there_more : (all ahead rest : List ℕ) (done given : ℕ) → done ≤ len
 there_more all ahead rest done given so_far left there =
     omega (arith, length-append ahead rest, ap length left, length-drop done all)
 
--- no record is longer than 70 bytes
+-- no frame is longer than 54 bytes, and no record than 70
 flow_frame-short : (flow index : ℕ) → length (flow_frame flow index) ≤ 54
 flow_frame-short flow index =
     elim (is_tcp_flow flow) as (λ b. length (cond b (tcp_frame flow index) (udp_frame flow index)) ≤ 54) [ true ↦ lit≤ tt | false ↦ lit≤ tt ]
 
+pub frame_of-short : (number index : ℕ) → length (frame_of number index) ≤ 54
+unfolding frame_of
+frame_of-short number index = flow_frame-short (flow_of number index) index
+
 record_of-short : (number index : ℕ) → length (record_of number index) ≤ 70
-unfolding record_of frame_of
-record_of-short number index = omega (arith, flow_frame-short (flow_of number index) index)
+unfolding record_of
+record_of-short number index = omega (arith, frame_of-short number index)
 
 records-short : (number first n : ℕ) → length (flat_map (record_of number) (range_with_len first n)) ≤ 70 * n
 records-short number first zero = omega arith

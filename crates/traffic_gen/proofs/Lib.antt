@@ -1,3 +1,4 @@
+mod Captures
 mod Fields
 mod Giving
 mod Making

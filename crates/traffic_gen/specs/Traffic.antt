@@ -2,13 +2,14 @@
 use Rattle.std.specs.Prelude.{ℕ, ◌+◌, ◌*◌, ◌/◌, ◌%◌, List, ◌++◌, length}
 use Rattle.std.specs.List.{flat_map, range_with_len}
 use Rattle.byteorder.specs.Endian.{little_bytes}
+use Rattle.pcap_reader.specs.declared.format.TheConstants.{MAGIC_MICROS, MAJOR, MINOR, LONGEST, LINK_ETHERNET, NANOS_PER_SECOND, NANOS_PER_MICRO}
 use Rattle.traffic_gen.specs.declared.layout.TheConstants.{PACKETS_PER_SECOND, MICROSECONDS_APART}
 use Rattle.traffic_gen.specs.Packet.{length_of, frame_of}
 
 -- the magic number of little-endian captures with microseconds, version 2.4, two fields that are read over, the greatest captured length, and the link type of Ethernet
 abbrev pub file_header : List ℕ
 file_header =
-    little_bytes 4 0xa1b2c3d4 ++ (little_bytes 2 2 ++ (little_bytes 2 4 ++ (little_bytes 4 0 ++ (little_bytes 4 0 ++ (little_bytes 4 262144 ++ little_bytes 4 1)))))
+    little_bytes 4 MAGIC_MICROS ++ (little_bytes 2 MAJOR ++ (little_bytes 2 MINOR ++ (little_bytes 4 0 ++ (little_bytes 4 0 ++ (little_bytes 4 LONGEST ++ little_bytes 4 LINK_ETHERNET)))))
 
 -- when the packet at an index was captured: whole seconds, and microseconds
 abbrev pub seconds_of : ℕ → ℕ
@@ -19,7 +20,7 @@ microseconds_of index = MICROSECONDS_APART * (index % PACKETS_PER_SECOND)
 
 -- the same in nanoseconds
 abbrev pub nanos_of : ℕ → ℕ
-nanos_of index = seconds_of index * 1000000000 + microseconds_of index * 1000
+nanos_of index = seconds_of index * NANOS_PER_SECOND + microseconds_of index * NANOS_PER_MICRO
 
 -- the header of a record with so many captured bytes
 abbrev pub record_header : ℕ → ℕ → List ℕ

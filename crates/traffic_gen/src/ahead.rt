@@ -16,12 +16,13 @@ pub struct Ahead {
 
 impl Model for Ahead {
     ghost use Rattle.std.specs.Prelude.{◌≤◌, List, ℕ, take, drop};
+    ghost use Rattle.traffic_gen.specs.declared.record.TheConstants.{LONGEST_RECORD};
 
     ghost Value = { List ℕ };
 
     ghost view = { λ a. drop a.start (take a.end a.bytes) };
 
-    ghost invariant = { λ a. (a.start ≤ a.end) × (a.end ≤ 70) };
+    ghost invariant = { λ a. (a.start ≤ a.end) × (a.end ≤ LONGEST_RECORD) };
 }
 
 impl Ahead {

@@ -8,7 +8,8 @@ pub const MULTIPLIER: u64 = 1_664_525;
 /// The addend of a step of the generator (Numerical Recipes in C, second edition, section 7.1).
 pub const INCREMENT: u64 = 1_013_904_223;
 
-/// What sets the starts of neighbouring packets apart: 2^32 by the golden ratio.
+/// What sets the starts of neighbouring packets apart: a prime near 2^32 divided by the golden ratio
+/// (Knuth, The Art of Computer Programming, volume 3, section 6.4).
 pub const SPREAD: u64 = 2_654_435_761;
 
 /// How many flows carry half of the packets.

@@ -1,7 +1,8 @@
 ghost use Rattle.std.specs.Prelude.{◌≡◌, ◌<◌};
 ghost use Rattle.rss_base.specs.declared.link.Link.TheVariants.{Ethernet};
 ghost use Rattle.packet_fields.specs.Frame.{fields_of};
-ghost use Rattle.traffic_gen.specs.Packet.{tcp_frame, udp_frame, frame_of, length_of};
+ghost use Rattle.traffic_gen.specs.Info.{info_of};
+ghost use Rattle.traffic_gen.specs.Packet.{tcp_frame, udp_frame, length_of};
 ghost use Rattle.traffic_gen.specs.Traffic.{nanos_of};
 
 use crate::draw::flow_of;
@@ -61,7 +62,7 @@ fn udp_info(flow: u16, index: u32) -> PacketInfo
 /// The fields of the packet at an index of a number's traffic: what [`packet_fields::fields`]
 /// answers for what is captured of it.
 pub fn info_at(number: u32, index: u32) -> PacketInfo
-    ensures { result ≡ fields_of Ethernet (frame_of number index) (nanos_of index) (length_of index) }
+    ensures { result ≡ info_of number index }
 {
     let flow = flow_of(number, index);
     if flow % 2 == 0 {

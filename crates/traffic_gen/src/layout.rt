@@ -1,5 +1,8 @@
 // The constants of generated traffic.
 
+/// The most records of a capture that is made.
+pub const MOST_RECORDS: u32 = 10_000_000;
+
 /// The file header: little-endian with microseconds, version 2.4, a snap length of 262,144 and
 /// Ethernet (libpcap's capture file format).
 pub const FILE_HEADER: [u8; 24] = [

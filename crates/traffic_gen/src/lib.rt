@@ -3,19 +3,24 @@
 //! The traffic of a number is defined as one list of bytes (`specs/Traffic.antt`): a capture of
 //! Ethernet frames of TCP and UDP over IPv4, half of them of four large flows. [`make`] writes it,
 //! a [`TrafficSource`] gives it, both byte for byte, and [`info_at`] answers the fields of any of
-//! its packets without making the bytes.
+//! its packets without making the bytes. It is a whole capture of its packets ([`good_capture`]).
 #![tactic(auto)]
 
 mod ahead;
 mod draw;
 mod frame;
 mod info;
+mod laws;
 mod layout;
 mod record;
 mod source;
+#[cfg(test)]
+mod tests;
 mod upcoming;
 mod writing;
 
 pub use info::info_at;
-pub use source::{MOST_RECORDS, TrafficSource};
+pub use laws::good_capture;
+pub use layout::MOST_RECORDS;
+pub use source::TrafficSource;
 pub use writing::make;

@@ -12,7 +12,7 @@ use packet_fields::{PROTOCOL_TCP, PROTOCOL_UDP};
 /// Bytes of the longest record.
 pub const LONGEST_RECORD: usize = 70;
 
-// Writes a piece at a place, and answers the place behind it.
+/// Writes a piece at a place, and answers the place behind it.
 pub fn put(bytes: &mut [u8], at: usize, piece: &[u8]) -> usize
     requires { at + length piece.now ≤ length bytes.old }
     ensures behind { result ≡ at + length piece.now }

@@ -3,12 +3,10 @@ ghost use Rattle.std.specs.Io.KnownBytes.{ReadConsumes};
 ghost use Rattle.rss_base.specs.Faults.{HasCause};
 ghost use Rattle.traffic_gen.specs.Source.{left_of, made_over, gave};
 
+use crate::layout::MOST_RECORDS;
 use crate::upcoming::Upcoming;
 use rss_base::{Failed, Source};
 use std::marker::Model;
-
-/// The most records of a capture that is made.
-pub const MOST_RECORDS: u32 = 10_000_000;
 
 /// A source that gives the traffic of a number, makes it as it is read, and never fails.
 #[derive(Drop)]
@@ -18,16 +16,14 @@ pub struct TrafficSource {
 }
 
 impl Model for TrafficSource {
-    ghost use Rattle.std.specs.Prelude.{◌≡◌, ◌≤◌, length, drop};
     ghost use Rattle.traffic_gen.specs.Source.{Flowing};
-    ghost use Rattle.traffic_gen.specs.Traffic.{traffic};
-    ghost use Rattle.traffic_gen.specs.Upcoming.{upcoming_bytes};
+    ghost use Rattle.traffic_gen.specs.Upcoming.{StandsBehind};
 
     ghost Value = { Flowing };
 
     ghost view = { λ s. record { count = s.upcoming.count; number = s.upcoming.number; given = s.given } };
 
-    ghost invariant = { λ s. (s.upcoming.count ≤ 10000000) × (s.given ≤ length (traffic s.upcoming.count s.upcoming.number)) × (upcoming_bytes s.upcoming ≡ drop s.given (traffic s.upcoming.count s.upcoming.number)) };
+    ghost invariant = { λ s. StandsBehind s.upcoming s.given };
 }
 
 impl TrafficSource {

@@ -3,7 +3,8 @@ ghost use Rattle.rss_base.specs.Faults.{HasCause};
 ghost use Rattle.rss_base.specs.Written.{Gets, GetsFront};
 ghost use Rattle.traffic_gen.specs.Traffic.{traffic};
 
-use crate::{MOST_RECORDS, TrafficSource};
+use crate::TrafficSource;
+use crate::layout::MOST_RECORDS;
 use rss_base::{Failed, Sink, write_whole};
 
 /// The most bytes that are written at once.

@@ -3,8 +3,10 @@ use crate::run::report_once;
 use crate::tests::captures::{Frame, SEGMENT, capture_of};
 use crate::tests::{Ends, WHOLE, run};
 use flow_work::Count;
+use indirection::Table;
 use rss_base::{MemorySink, MemorySource};
 use std::test::Fail;
+use toeplitz::DEFAULT_KEY;
 
 const TWO: [Frame<'static>; 2] = [(&SEGMENT, 60), (&[], 42)];
 
@@ -55,7 +57,9 @@ fn a_packet_too_many_is_refused(rt: HostRuntime) -> Result<(), Fail> {
     let capture = capture_of(rt.alloc(), &TWO)?;
     let mut source = MemorySource::new(capture, Vec::new(rt.alloc()), Vec::new(rt.alloc()));
     let mut out = MemorySink::new(rt.alloc(), 100, Vec::new(rt.alloc()))?;
-    let answer = report_once(rt.alloc(), 1, &Count, &mut source, &mut out);
+    let spread = Table::new(rt.alloc(), 1, 1)?;
+    let key = &DEFAULT_KEY;
+    let answer = report_once(rt.alloc(), 1, key, &spread, &Count, &mut source, &mut out);
     assert!(rt; answer == Err(TopFault::TooMany { limit: 1 }));
     assert!(rt; out.bytes().is_empty());
     Ok(())

@@ -1,13 +1,10 @@
-use Rattle.std.proofs.Common.{rules, refl, ◌+◌, ◌<◌, sym, ap, ◌∙◌, List, length, map, [], ◌∷◌, ◌++◌, arith, subst, Ok, length-append}
+use Rattle.std.proofs.Common.{take, drop, refl, ◌+◌, ◌<◌, sym, ap, ◌∙◌, List, length, map, [], ◌∷◌, ◌++◌, arith, subst, Ok, length-append}
 use Rattle.packet_fields.specs.declared.packet.PacketInfo.{PacketInfo}
-use Rattle.pcap_reader.proofs.Streams.{on_not_err}
 use Rattle.rsspp_main.specs.Packets.{packet_of}
-use Rattle.rsspp_main.specs.Table.{IsTable}
-use Rattle.rsspp_main.proofs.Gathered.{refused_at_start, next_none, next_some, too_many, packets-push, same_length}
+use Rattle.rsspp_main.specs.Tables.{AreTables}
+use Rattle.rsspp_main.proofs.BucketTables.{back}
+use Rattle.rsspp_main.proofs.Gathered.{next_none, next_some, too_many, packets-push, same_length}
 use Rattle.rsspp_main.proofs.gather.gather.Goals as goal
-
-pub returns-in-Err-clause-refused : goal.returns-in-Err-clause-refused
-returns-in-Err-clause-refused g c = rw c.fault_of.ensures (refused_at_start c.args.limit _ c.in-Err.error c.in-Err.ensures.refused)
 
 pub returns-in-Ok-None-clause-end : goal.returns-in-Ok-None-clause-end
 returns-in-Ok-None-clause-end g c =
@@ -27,13 +24,16 @@ packets-preserved g c =
     let more = next_some (left c.args.source.now) (left c.packets.source) (left c.next_packet.new.source) c.packets.reader c.next_packet.new.reader next.0 rs p
     (sym (c.in-Ok-Some.is ∙ ap Ok c.in-Ok-Some.field-0-is) ∙ next.1) so_far.going next.2 so_far.records.3 in
     let few : length (map packet_of rs) < 4294967295 = omega (arith, same_length rs, so_far.records.1, c.packets-test.true, c.requires) in
-    let added = on_not_err c.add.result (search rules) (c.add.ensures (map packet_of rs) few so_far.records.2) in
+    let tables = subst (λ ts. AreTables g.W.FlowWork.opening g.W.FlowWork.after c.args.key.now (length c.args.spread.now.owners) (map packet_of rs) ts) (sym c.deref_mut.ensures.value) so_far.records.2 in
+    let added = c.work_packet.ensures (map packet_of rs) few tables in
+    let size = c.deref_mut.ensures.len in
+    let same = back c.work_packet.new.tables c.packets.tables.items c.packets.tables.len (c.work_packet.auto.tables ∙ size) (sym (ap length c.deref_mut.ensures.value) ∙ size) in
     record {
       records = (
         rs ++ more.0 ∷ [],
         length-append rs (more.0 ∷ []) ∙ ap (λ n. n + 1) so_far.records.1,
-        subst (λ (xs : List PacketInfo). IsTable g.W.FlowWork.opening g.W.FlowWork.after g.W.FlowWork.stands_for xs c.add.new.table)
-            (ap (λ (q : PacketInfo). map packet_of rs ++ q ∷ []) more.1.packet ∙ sym (packets-push rs more.0)) added,
+        subst (λ (xs : List PacketInfo). AreTables g.W.FlowWork.opening g.W.FlowWork.after c.args.key.now (length c.args.spread.now.owners) xs (take c.packets.tables.len (c.work_packet.new.tables ++ drop (length c.work_packet.new.tables) c.packets.tables.items)))
+            (ap (λ (q : PacketInfo). map packet_of rs ++ q ∷ []) more.1.packet ∙ sym (packets-push rs more.0)) (rw same added),
         more.1.so_far,
       );
       given = more.1.given ∙ ap (λ n. n + 1) so_far.given;

@@ -8,4 +8,4 @@ pub overflow_add-self : goal.overflow_add-self
 overflow_add-self c =
     let s = c.self.inside in
     let all = traffic s.upcoming.count s.upcoming.number in
-    omega (arith, length-traffic s.upcoming.count s.upcoming.number, c.self.invariant.0, c.self.invariant.1, ap length c.self.invariant.2, length-drop s.given all, c.give-count.ensures.given)
+    omega (arith, length-traffic s.upcoming.count s.upcoming.number, c.self.invariant.few, c.self.invariant.within, ap length c.self.invariant.bytes, length-drop s.given all, c.give-count.ensures.given)

@@ -1,0 +1,3 @@
+pub mod FirstKeys
+pub mod Kept
+pub mod Table

@@ -1,0 +1,14 @@
+pub mod Buckets
+pub mod Due
+pub mod Each
+pub mod JournalView
+pub mod Judge
+pub mod Lawful
+pub mod Outcomes
+pub mod Owner
+pub mod Rounds
+pub mod Stints
+pub mod Story
+pub mod Tables
+pub mod Tries
+pub mod Views
