@@ -1,0 +1,13 @@
+pub mod Legal
+pub mod Picture
+pub mod Dispatch
+pub mod State
+pub mod Machine
+pub mod MachineDesk
+pub mod Bucket
+pub mod Sound
+pub mod Runs
+pub mod Promises
+pub mod Cores
+pub mod Inside
+pub mod Neighbours
