@@ -27,7 +27,7 @@ WORDS_REFUSED = 2  # the status of a program that doesn't know the words yet
 FEW, MANY = 1_000, 100_000  # flows
 SLOW = 5  # a command that takes more seconds is run once
 LIMIT = 60  # and one that takes so many is ended
-SECTIONS = ("reports", "memory", "forms", "generated", "calls")
+SECTIONS = ("reports", "memory", "forms", "generated", "calls", "plans")
 
 # Tools that its users have today. FILE stands for the capture.
 OTHERS = {
@@ -36,6 +36,11 @@ OTHERS = {
     "softflowd": f"softflowd -d -m 1000000 -p {OUT}/softflowd.pid -c {OUT}/softflowd.ctl -r FILE",
     "nfpcapd": f"nfpcapd -w {OUT}/nfpcapd -r FILE",
 }
+
+# Words in which each option stands that is built, the longest values among them.
+EACH_OPTION = "--cores 64 --buckets 512 --work count --round 1000 --limit 4 --pool 1024".split()
+EACH_OPTION += ["--key", "6d" * 40, "--table", ",".join(str(b % 64) for b in range(512))]
+EACH_OPTION += ["--moves", ",".join(f"{at}:0:1" for at in range(4096)), "--packets", "1000"]
 
 
 @dataclass
@@ -214,6 +219,27 @@ class Bench:
                 continue
             reads, writes = counts
             print(f"  {name:<22}{reads:>10}{path.stat().st_size / max(reads, 1):>14.0f}{writes:>10}")
+
+    def plans(self):
+        print("\n== Plans of 512 buckets on 64 cores, and words")
+        texts = {limit: plan_text(limit) for limit in (16, 0)}
+        empty = OUT / "empty.pcap"
+        empty.write_bytes(self.capture(FEW).read_bytes()[:24])
+        plan, report = [self.program, "plan"], [self.program, "report"]
+        rows = [(f"plan, limit {limit}", plan, text) for limit, text in texts.items()]
+        rows.append(("report of 1,000", report, self.capture(FEW, records=1_000)))
+        rows.append(("words of each option", report + EACH_OPTION, empty))
+        rows.append(("report of nothing", report, empty))
+        times(rows, 10 * self.runs)
+
+
+def plan_text(limit):
+    """A plan text whose first cores carry most, in bench/out/."""
+    path = OUT / f"plan-{limit}.txt"
+    lines = ["cores 64", f"limit {limit}", "base" + " 0" * 64]
+    lines += [f"bucket {b % 64} {1000 * (64 - b % 64) + 7 * b}" for b in range(512)]
+    path.write_text("\n".join(lines) + "\n")
+    return path
 
 
 def peak_kibibytes(words, source):

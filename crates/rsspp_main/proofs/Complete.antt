@@ -1,5 +1,5 @@
--- Which status comes, by how the stream of the source's bytes ends.
-use Rattle.std.proofs.Common.{◌≡◌, ◌⊎◌, ◌↔◌, inl, inr, ℕ, List, [], ◌∷◌, ◌++◌, length-append, arith, refl, sym, subst, Option, None, Some, Result, Ok, Err, IfSome, OnOk, OnErr, ap}
+-- Which status comes, by what the words ask for and how the source's bytes end.
+use Rattle.std.proofs.Common.{◌≡◌, ◌⊎◌, inl, inr, ℕ, List, [], ◌∷◌, ◌++◌, length-append, arith, refl, sym, ap, subst, Option, None, Some, Result, Ok, Err, IfSome, OnOk, OnErr}
 use Rattle.rss_base.specs.Faults.{NoneFailed, HasCause}
 use Rattle.rss_base.specs.Written.{Gets, GetsFront}
 use Rattle.std.proofs.lemmas.List.{append-nil}
@@ -9,19 +9,21 @@ use Rattle.pcap_reader.specs.StreamEnd as stream
 use Rattle.pcap_reader.specs.declared.fault.Break.{Break}
 use Rattle.pcap_reader.proofs.StreamEnds.{one_stream_end}
 use Rattle.packet_fields.specs.declared.packet.PacketInfo.{PacketInfo}
-use Rattle.rsspp_main.specs.declared.fault.TopFault.{TopFault}
-use Rattle.rsspp_main.specs.declared.fault.TopFault.TheVariants.{Words, Capture, ReadFault, WriteFault, NoMemory, TooMany}
-use Rattle.indirection.specs.Tables.{owners_in_turn}
-use Rattle.toeplitz.specs.declared.key.TheConstants.{DEFAULT_KEY}
-use Rattle.rsspp_main.specs.declared.defaults.TheConstants.{CORES, BUCKETS}
+use Rattle.balancer.specs.PlanForm.{Instance, instance_of}
+use Rattle.command_words.specs.declared.command.Command.{Command}
+use Rattle.command_words.specs.declared.mode.Mode.{Mode}
+use Rattle.command_words.specs.declared.mode.Mode.TheVariants as mode
+use Rattle.command_words.specs.declared.word_fault.WordFault.{WordFault}
+use Rattle.command_words.specs.declared.word_fault.WordFault.TheVariants as word
 use Rattle.traffic_gen.specs.Traffic.{traffic}
-use Rattle.rsspp_main.specs.declared.words.Request.{Request}
-use Rattle.rsspp_main.specs.declared.words.Request.TheVariants.{Report, Hash, Make}
+use Rattle.rsspp_main.specs.declared.fault.TopFault.{TopFault}
+use Rattle.rsspp_main.specs.declared.fault.TopFault.TheVariants.{Words, Capture, Line, ReadFault, WriteFault, NoMemory, TooMany}
+use Rattle.rsspp_main.specs.Answers.{Answers, Does, ReadsCapture, fault_of_word}
 use Rattle.rsspp_main.specs.Gather.{Accepts}
-use Rattle.rsspp_main.specs.Notes.{Says}
-use Rattle.rsspp_main.specs.Answers.{Answers, ReadsCapture}
 use Rattle.rsspp_main.specs.Listing.{listing, BeginsWith, ExplainsListing}
-use Rattle.rsspp_main.specs.Run.{Ends, Explains, ExplainsText, report_by}
+use Rattle.rsspp_main.specs.Notes.{Says}
+use Rattle.rsspp_main.specs.Plan.{ExplainsPlan}
+use Rattle.rsspp_main.specs.Run.{Ends, Explains, ExplainsText, Untouched, report_by}
 use Rattle.rsspp_main.specs.Status.{status_of}
 
 -- what the writing of a line says of the notes
@@ -40,6 +42,7 @@ accepted_ends limit left bytes told records a = (records, known left bytes (λ b
 pub Tells : ℕ → List ℕ → Ends → Ends → Option TopFault → Type 0
 Tells limit bytes old new None = EndsStream limit bytes stream.Whole
 Tells limit bytes old new (Some (Words w)) = ⊥
+Tells limit bytes old new (Some (Line k)) = ⊥
 Tells limit bytes old new (Some (Capture e)) = EndsStream limit bytes (stream.Broken e)
 Tells limit bytes old new (Some ReadFault) = NoneFailed old.read_faults new.read_faults → ⊥
 Tells limit bytes old new (Some WriteFault) = EndsStream limit bytes stream.Whole × (NoneFailed old.write_faults new.write_faults → ⊥)
@@ -50,6 +53,7 @@ tells : (limit : ℕ) (text : List PacketInfo → List ℕ) (old new : Ends) (by
 unfolding Tells
 tells limit text old new bytes told None h = accepted_ends limit old.left bytes told h.0 h.1
 tells limit text old new bytes told (Some (Words w)) h = h
+tells limit text old new bytes told (Some (Line k)) h = h
 tells limit text old new bytes told (Some (Capture e)) h = known old.left bytes (λ b. EndsStream limit b (stream.Broken e)) told h.0
 tells limit text old new bytes told (Some ReadFault) h = λ quiet. quiet h.0
 tells limit text old new bytes told (Some WriteFault) h = (accepted_ends limit old.left bytes told h.1.0 h.1.1, λ calm. calm h.0)
@@ -61,6 +65,7 @@ tells_listing : (limit : ℕ) (text : List PacketInfo → List ℕ) (old new : E
 unfolding Tells
 tells_listing limit text old new bytes told None h = accepted_ends limit old.left bytes told h.0 h.1
 tells_listing limit text old new bytes told (Some (Words w)) h = h
+tells_listing limit text old new bytes told (Some (Line k)) h = h
 tells_listing limit text old new bytes told (Some (Capture e)) h = (h.0, known old.left bytes (λ b. Reads b h.0 (Breaks e)) told h.2, h.1)
 tells_listing limit text old new bytes told (Some ReadFault) h = λ quiet. quiet h.0
 tells_listing limit text old new bytes told (Some WriteFault) h = (accepted_ends limit old.left bytes told h.1 h.2, λ calm. calm h.0)
@@ -78,6 +83,7 @@ done_by : (limit : ℕ) (old new : Ends) (bytes : List ℕ) → EndsStream limit
 unfolding Tells
 done_by limit old new bytes end quiet calm None t = inl refl
 done_by limit old new bytes end quiet calm (Some (Words w)) t = absurd t
+done_by limit old new bytes end quiet calm (Some (Line k)) t = absurd t
 done_by limit old new bytes end quiet calm (Some (Capture e)) t = let same = one_stream_end limit bytes stream.Whole (stream.Broken e) end t in cc
 done_by limit old new bytes end quiet calm (Some ReadFault) t = absurd (t quiet)
 done_by limit old new bytes end quiet calm (Some WriteFault) t = absurd (t.1 calm)
@@ -88,6 +94,7 @@ broken_by : (limit : ℕ) (old new : Ends) (bytes : List ℕ) (e : Break) → En
 unfolding Tells
 broken_by limit old new bytes e end quiet None t = let same = one_stream_end limit bytes (stream.Broken e) stream.Whole end t in cc
 broken_by limit old new bytes e end quiet (Some (Words w)) t = absurd t
+broken_by limit old new bytes e end quiet (Some (Line k)) t = absurd t
 broken_by limit old new bytes e end quiet (Some (Capture f)) t = inl refl
 broken_by limit old new bytes e end quiet (Some ReadFault) t = absurd (t quiet)
 broken_by limit old new bytes e end quiet (Some WriteFault) t = let same = one_stream_end limit bytes (stream.Broken e) stream.Whole end t.0 in cc
@@ -98,76 +105,177 @@ too_many_by : (limit : ℕ) (old new : Ends) (bytes : List ℕ) → EndsStream l
 unfolding Tells
 too_many_by limit old new bytes end quiet None t = let same = one_stream_end limit bytes stream.TooMany stream.Whole end t in cc
 too_many_by limit old new bytes end quiet (Some (Words w)) t = absurd t
+too_many_by limit old new bytes end quiet (Some (Line k)) t = absurd t
 too_many_by limit old new bytes end quiet (Some (Capture f)) t = let same = one_stream_end limit bytes stream.TooMany (stream.Broken f) end t in cc
 too_many_by limit old new bytes end quiet (Some ReadFault) t = absurd (t quiet)
 too_many_by limit old new bytes end quiet (Some WriteFault) t = let same = one_stream_end limit bytes stream.TooMany stream.Whole end t.0 in cc
 too_many_by limit old new bytes end quiet (Some NoMemory) t = inr refl
 too_many_by limit old new bytes end quiet (Some (TooMany n)) t = inl refl
 
--- the end of the stream that the answer to a request about a capture tells
-answer_tells : (request : Option Request) (limit : ℕ) (old new : Ends) (fault : Option TopFault) → Answers request limit old new fault → (bytes : List ℕ) → ReadsCapture request → old.left ≡ Some bytes → Tells limit bytes old new fault
-answer_tells None limit old new fault a bytes asks told = absurd asks
-answer_tells (Some (Report work)) limit old new fault a bytes asks told = tells limit (report_by work) old new bytes told fault a
-answer_tells (Some Hash) limit old new fault a bytes asks told = tells_listing limit (listing DEFAULT_KEY (owners_in_turn CORES BUCKETS)) old new bytes told fault a
-answer_tells (Some (Make count number)) limit old new fault a bytes asks told = absurd asks
+-- the end of the stream that a mode about a capture tells
+does_tell : (m : Mode) (c : Command) (old new : Ends) (fault : Option TopFault) → ReadsCapture m → Does m c old new fault → (bytes : List ℕ) → old.left ≡ Some bytes → Tells c.options.packets bytes old new fault
+does_tell mode.Report c old new fault asks d bytes told = tells c.options.packets (report_by c.options.work) old new bytes told fault d
+does_tell mode.Hash c old new fault asks d bytes told = tells_listing c.options.packets (listing c.options.key c.options.start.owners) old new bytes told fault d
+does_tell mode.Plan c old new fault asks d bytes told = absurd asks
+does_tell mode.Make c old new fault asks d bytes told = absurd asks
+does_tell mode.Demo c old new fault asks d bytes told = absurd asks
 
-pub done : (request : Option Request) (limit : ℕ) (old new : Ends) (fault : Option TopFault) → Answers request limit old new fault →
-    (bytes : List ℕ) → ReadsCapture request → old.left ≡ Some bytes → EndsStream limit bytes stream.Whole → NoneFailed old.read_faults new.read_faults → NoneFailed old.write_faults new.write_faults → (status_of fault ≡ 0) ⊎ (status_of fault ≡ 6)
-done request limit old new fault a bytes asks told end quiet calm = done_by limit old new bytes end quiet calm fault (answer_tells request limit old new fault a bytes asks told)
+-- want of memory, or what the mode says
+of_command : (r : Result Command WordFault) (c : Command) (old new : Ends) (fault : Option TopFault) → Answers r old new fault → r ≡ Ok c → (fault ≡ Some NoMemory) ⊎ Does c.mode c old new fault
+of_command r c old new fault a is = by_answer (subst (λ (r : Result Command WordFault). Answers r old new fault) is a)
+  where
+    by_answer : Answers (Ok c) old new fault → (fault ≡ Some NoMemory) ⊎ Does c.mode c old new fault
+    by_answer (inl lack) = inl lack.0
+    by_answer (inr d) = inr d
 
-pub broken : (request : Option Request) (limit : ℕ) (old new : Ends) (fault : Option TopFault) → Answers request limit old new fault →
-    (bytes : List ℕ) (e : Break) → ReadsCapture request → old.left ≡ Some bytes → EndsStream limit bytes (stream.Broken e) → NoneFailed old.read_faults new.read_faults → (status_of fault ≡ 3) ⊎ (status_of fault ≡ 6)
-broken request limit old new fault a bytes e asks told end quiet = broken_by limit old new bytes e end quiet fault (answer_tells request limit old new fault a bytes asks told)
+six : (fault : Option TopFault) → fault ≡ Some NoMemory → status_of fault ≡ 6
+six fault e = ap status_of e
 
-pub too_many : (request : Option Request) (limit : ℕ) (old new : Ends) (fault : Option TopFault) → Answers request limit old new fault →
-    (bytes : List ℕ) → ReadsCapture request → old.left ≡ Some bytes → EndsStream limit bytes stream.TooMany → NoneFailed old.read_faults new.read_faults → (status_of fault ≡ 7) ⊎ (status_of fault ≡ 6)
-too_many request limit old new fault a bytes asks told end quiet = too_many_by limit old new bytes end quiet fault (answer_tells request limit old new fault a bytes asks told)
+pub done : (r : Result Command WordFault) (old new : Ends) (fault : Option TopFault) → Answers r old new fault →
+    (c : Command) (bytes : List ℕ) → r ≡ Ok c → ReadsCapture c.mode → old.left ≡ Some bytes → EndsStream c.options.packets bytes stream.Whole → NoneFailed old.read_faults new.read_faults → NoneFailed old.write_faults new.write_faults → (status_of fault ≡ 0) ⊎ (status_of fault ≡ 6)
+done r old new fault a c bytes is asks told end quiet calm = elim (of_command r c old new fault a is) [
+  | inl lack ↦ inr (six fault lack)
+  | inr d ↦ done_by c.options.packets old new bytes end quiet calm fault (does_tell c.mode c old new fault asks d bytes told)
+]
+
+pub broken : (r : Result Command WordFault) (old new : Ends) (fault : Option TopFault) → Answers r old new fault →
+    (c : Command) (bytes : List ℕ) (e : Break) → r ≡ Ok c → ReadsCapture c.mode → old.left ≡ Some bytes → EndsStream c.options.packets bytes (stream.Broken e) → NoneFailed old.read_faults new.read_faults → (status_of fault ≡ 3) ⊎ (status_of fault ≡ 6)
+broken r old new fault a c bytes e is asks told end quiet = elim (of_command r c old new fault a is) [
+  | inl lack ↦ inr (six fault lack)
+  | inr d ↦ broken_by c.options.packets old new bytes e end quiet fault (does_tell c.mode c old new fault asks d bytes told)
+]
+
+pub too_many : (r : Result Command WordFault) (old new : Ends) (fault : Option TopFault) → Answers r old new fault →
+    (c : Command) (bytes : List ℕ) → r ≡ Ok c → ReadsCapture c.mode → old.left ≡ Some bytes → EndsStream c.options.packets bytes stream.TooMany → NoneFailed old.read_faults new.read_faults → (status_of fault ≡ 7) ⊎ (status_of fault ≡ 6)
+too_many r old new fault a c bytes is asks told end quiet = elim (of_command r c old new fault a is) [
+  | inl lack ↦ inr (six fault lack)
+  | inr d ↦ too_many_by c.options.packets old new bytes end quiet fault (does_tell c.mode c old new fault asks d bytes told)
+]
 
 made_by : (text : List ℕ) (old new : Ends) → NoneFailed old.write_faults new.write_faults → (fault : Option TopFault) → ExplainsText text old new fault → status_of fault ≡ 0
 made_by text old new calm None h = refl
 made_by text old new calm (Some (Words w)) h = absurd h
 made_by text old new calm (Some (Capture e)) h = absurd h
+made_by text old new calm (Some (Line k)) h = absurd h
 made_by text old new calm (Some ReadFault) h = absurd h
 made_by text old new calm (Some WriteFault) h = absurd (calm h.1)
 made_by text old new calm (Some NoMemory) h = absurd h
 made_by text old new calm (Some (TooMany n)) h = absurd h
 
-pub made : (request : Option Request) (limit : ℕ) (old new : Ends) (fault : Option TopFault) → Answers request limit old new fault →
-    (count number : ℕ) → request ≡ Some (Make count number) → NoneFailed old.write_faults new.write_faults → status_of fault ≡ 0
-made request limit old new fault a count number is calm =
-    made_by (traffic count number) old new calm fault (subst (λ (r : Option Request). Answers r limit old new fault) is a)
+pub made : (r : Result Command WordFault) (old new : Ends) (fault : Option TopFault) → Answers r old new fault →
+    (c : Command) → r ≡ Ok c → c.mode ≡ mode.Make → NoneFailed old.write_faults new.write_faults → (status_of fault ≡ 0) ⊎ (status_of fault ≡ 6)
+made r old new fault a c is asks calm = elim (of_command r c old new fault a is) [
+  | inl lack ↦ inr (six fault lack)
+  | inr d ↦ inl (made_by (traffic c.count c.number) old new calm fault (subst (λ (m : Mode). Does m c old new fault) asks d))
+]
 
--- the run of a request never refuses words
-not_refused : (limit : ℕ) (text : List PacketInfo → List ℕ) (old new : Ends) (fault : Option TopFault) → Explains limit text old new fault → status_of fault ≡ 2 → ⊥
-not_refused limit text old new None h e = cc
-not_refused limit text old new (Some (Words w)) h e = h
-not_refused limit text old new (Some (Capture f)) h e = cc
-not_refused limit text old new (Some (TooMany n)) h e = cc
-not_refused limit text old new (Some ReadFault) h e = cc
-not_refused limit text old new (Some WriteFault) h e = cc
-not_refused limit text old new (Some NoMemory) h e = cc
+planned_by : (old new : Ends) (bytes : List ℕ) (p : Instance) → old.left ≡ Some bytes → instance_of bytes ≡ Ok p → NoneFailed old.read_faults new.read_faults → NoneFailed old.write_faults new.write_faults → (fault : Option TopFault) → ExplainsPlan old new fault → (status_of fault ≡ 0) ⊎ (status_of fault ≡ 6)
+planned_by old new bytes p told spells quiet calm None h = inl refl
+planned_by old new bytes p told spells quiet calm (Some (Words w)) h = absurd h
+planned_by old new bytes p told spells quiet calm (Some (Capture e)) h = absurd h
+planned_by old new bytes p told spells quiet calm (Some (Line k)) h = let bad = known old.left bytes (λ b. instance_of b ≡ Err k) told h.0 in cc
+planned_by old new bytes p told spells quiet calm (Some ReadFault) h = absurd (quiet h.0)
+planned_by old new bytes p told spells quiet calm (Some WriteFault) h = absurd (calm h.0)
+planned_by old new bytes p told spells quiet calm (Some NoMemory) h = inr refl
+planned_by old new bytes p told spells quiet calm (Some (TooMany n)) h = absurd h
 
-listing_not_refused : (limit : ℕ) (text : List PacketInfo → List ℕ) (old new : Ends) (fault : Option TopFault) → ExplainsListing limit text old new fault → status_of fault ≡ 2 → ⊥
-listing_not_refused limit text old new None h e = cc
-listing_not_refused limit text old new (Some (Words w)) h e = h
-listing_not_refused limit text old new (Some (Capture f)) h e = cc
-listing_not_refused limit text old new (Some (TooMany n)) h e = cc
-listing_not_refused limit text old new (Some ReadFault) h e = cc
-listing_not_refused limit text old new (Some WriteFault) h e = cc
-listing_not_refused limit text old new (Some NoMemory) h e = cc
+pub planned : (r : Result Command WordFault) (old new : Ends) (fault : Option TopFault) → Answers r old new fault →
+    (c : Command) (bytes : List ℕ) (p : Instance) → r ≡ Ok c → c.mode ≡ mode.Plan → old.left ≡ Some bytes → instance_of bytes ≡ Ok p → NoneFailed old.read_faults new.read_faults → NoneFailed old.write_faults new.write_faults → (status_of fault ≡ 0) ⊎ (status_of fault ≡ 6)
+planned r old new fault a c bytes p is asks told spells quiet calm = elim (of_command r c old new fault a is) [
+  | inl lack ↦ inr (six fault lack)
+  | inr d ↦ planned_by old new bytes p told spells quiet calm fault (subst (λ (m : Mode). Does m c old new fault) asks d)
+]
 
-text_not_refused : (text : List ℕ) (old new : Ends) (fault : Option TopFault) → ExplainsText text old new fault → status_of fault ≡ 2 → ⊥
-text_not_refused text old new None h e = cc
-text_not_refused text old new (Some (Words w)) h e = h
-text_not_refused text old new (Some (Capture f)) h e = h
-text_not_refused text old new (Some (TooMany n)) h e = h
-text_not_refused text old new (Some ReadFault) h e = h
-text_not_refused text old new (Some WriteFault) h e = cc
-text_not_refused text old new (Some NoMemory) h e = h
+bad_line_by : (old new : Ends) (bytes : List ℕ) (line : ℕ) → old.left ≡ Some bytes → instance_of bytes ≡ Err line → NoneFailed old.read_faults new.read_faults → (fault : Option TopFault) → ExplainsPlan old new fault → (status_of fault ≡ 3) ⊎ (status_of fault ≡ 6)
+bad_line_by old new bytes line told bad quiet None h = let good = known old.left bytes (λ b. instance_of b ≡ Ok h.0) told h.1 in cc
+bad_line_by old new bytes line told bad quiet (Some (Words w)) h = absurd h
+bad_line_by old new bytes line told bad quiet (Some (Capture e)) h = absurd h
+bad_line_by old new bytes line told bad quiet (Some (Line k)) h = inl refl
+bad_line_by old new bytes line told bad quiet (Some ReadFault) h = absurd (quiet h.0)
+bad_line_by old new bytes line told bad quiet (Some WriteFault) h = let good = known old.left bytes (λ b. instance_of b ≡ Ok h.1) told h.2 in cc
+bad_line_by old new bytes line told bad quiet (Some NoMemory) h = inr refl
+bad_line_by old new bytes line told bad quiet (Some (TooMany n)) h = absurd h
 
--- words are refused exactly where they make no request
-pub words : (request : Option Request) (limit : ℕ) (old new : Ends) (fault : Option TopFault) → Answers request limit old new fault → (status_of fault ≡ 2) ↔ (request ≡ None)
-words None limit old new fault a = (λ e. refl, λ no. ap status_of a.0)
-words (Some (Report work)) limit old new fault a = (λ e. absurd (not_refused limit (report_by work) old new fault a e), λ no. cc)
-words (Some Hash) limit old new fault a = (λ e. absurd (listing_not_refused limit (listing DEFAULT_KEY (owners_in_turn CORES BUCKETS)) old new fault a e), λ no. cc)
-words (Some (Make count number)) limit old new fault a = (λ e. absurd (text_not_refused (traffic count number) old new fault a e), λ no. cc)
+pub bad_line : (r : Result Command WordFault) (old new : Ends) (fault : Option TopFault) → Answers r old new fault →
+    (c : Command) (bytes : List ℕ) (line : ℕ) → r ≡ Ok c → c.mode ≡ mode.Plan → old.left ≡ Some bytes → instance_of bytes ≡ Err line → NoneFailed old.read_faults new.read_faults → (status_of fault ≡ 3) ⊎ (status_of fault ≡ 6)
+bad_line r old new fault a c bytes line is asks told bad quiet = elim (of_command r c old new fault a is) [
+  | inl lack ↦ inr (six fault lack)
+  | inr d ↦ bad_line_by old new bytes line told bad quiet fault (subst (λ (m : Mode). Does m c old new fault) asks d)
+]
+
+-- words that are refused
+pub refused : (r : Result Command WordFault) (old new : Ends) (fault : Option TopFault) → Answers r old new fault → (e : WordFault) → r ≡ Err e → (status_of fault ≡ 2) ⊎ (status_of fault ≡ 6)
+refused r old new fault a e is = by_answer (subst (λ (r : Result Command WordFault). Answers r old new fault) is a)
+  where
+    by_answer : Answers (Err e) old new fault → (status_of fault ≡ 2) ⊎ (status_of fault ≡ 6)
+    by_answer h = elim h.0 [ inl w ↦ inl (ap status_of w) | inr lack ↦ inr (six fault lack) ]
+
+-- no mode refuses words
+explains_none : (limit : ℕ) (text : List PacketInfo → List ℕ) (old new : Ends) (fault : Option TopFault) → Explains limit text old new fault → status_of fault ≡ 2 → ⊥
+explains_none limit text old new None h e = cc
+explains_none limit text old new (Some (Words w)) h e = h
+explains_none limit text old new (Some (Capture f)) h e = cc
+explains_none limit text old new (Some (Line k)) h e = h
+explains_none limit text old new (Some (TooMany n)) h e = cc
+explains_none limit text old new (Some ReadFault) h e = cc
+explains_none limit text old new (Some WriteFault) h e = cc
+explains_none limit text old new (Some NoMemory) h e = cc
+
+listing_none : (limit : ℕ) (text : List PacketInfo → List ℕ) (old new : Ends) (fault : Option TopFault) → ExplainsListing limit text old new fault → status_of fault ≡ 2 → ⊥
+listing_none limit text old new None h e = cc
+listing_none limit text old new (Some (Words w)) h e = h
+listing_none limit text old new (Some (Capture f)) h e = cc
+listing_none limit text old new (Some (Line k)) h e = h
+listing_none limit text old new (Some (TooMany n)) h e = cc
+listing_none limit text old new (Some ReadFault) h e = cc
+listing_none limit text old new (Some WriteFault) h e = cc
+listing_none limit text old new (Some NoMemory) h e = cc
+
+text_none : (text : List ℕ) (old new : Ends) (fault : Option TopFault) → ExplainsText text old new fault → status_of fault ≡ 2 → ⊥
+text_none text old new None h e = cc
+text_none text old new (Some (Words w)) h e = h
+text_none text old new (Some (Capture f)) h e = h
+text_none text old new (Some (Line k)) h e = h
+text_none text old new (Some (TooMany n)) h e = h
+text_none text old new (Some ReadFault) h e = h
+text_none text old new (Some WriteFault) h e = cc
+text_none text old new (Some NoMemory) h e = h
+
+plan_none : (old new : Ends) (fault : Option TopFault) → ExplainsPlan old new fault → status_of fault ≡ 2 → ⊥
+plan_none old new None h e = cc
+plan_none old new (Some (Words w)) h e = h
+plan_none old new (Some (Capture f)) h e = h
+plan_none old new (Some (Line k)) h e = cc
+plan_none old new (Some (TooMany n)) h e = h
+plan_none old new (Some ReadFault) h e = cc
+plan_none old new (Some WriteFault) h e = cc
+plan_none old new (Some NoMemory) h e = cc
+
+does_none : (m : Mode) (c : Command) (old new : Ends) (fault : Option TopFault) → Does m c old new fault → status_of fault ≡ 2 → ⊥
+does_none mode.Report c old new fault d e = explains_none c.options.packets (report_by c.options.work) old new fault d e
+does_none mode.Hash c old new fault d e = listing_none c.options.packets (listing c.options.key c.options.start.owners) old new fault d e
+does_none mode.Plan c old new fault d e = plan_none old new fault d e
+does_none mode.Make c old new fault d e = text_none (traffic c.count c.number) old new fault d e
+does_none mode.Demo c old new fault d e = d
+
+pub words : (r : Result Command WordFault) (old new : Ends) (fault : Option TopFault) → Answers r old new fault → status_of fault ≡ 2 → (e : WordFault) × (r ≡ Err e)
+words (Err e) old new fault a two = (e, refl)
+words (Ok c) old new fault (inl lack) two = absurd (let memory = ap status_of lack.0 in cc)
+words (Ok c) old new fault (inr d) two = absurd (does_none c.mode c old new fault d two)
+
+-- words that gave no command
+pub unread : (r : Result Command WordFault) (old new : Ends) (e : WordFault) → Untouched old new → (e ≡ word.NoMemory) ⊎ (r ≡ Err e) → Answers r old new (Some (fault_of_word e))
+unread r old new e u (inl lack) = rw lack (of_any r)
+  where
+    of_any : (r : Result Command WordFault) → Answers r old new (Some NoMemory)
+    of_any (Ok c) = inl (refl, u)
+    of_any (Err f) = (inr refl, u)
+unread r old new e u (inr is) = rw is (of_fault e, u)
+  where
+    of_fault : (e : WordFault) → (◌≡◌ {A = Option TopFault} (Some (fault_of_word e)) (Some (Words e))) ⊎ (◌≡◌ {A = Option TopFault} (Some (fault_of_word e)) (Some NoMemory))
+    of_fault word.NoMemory = inr refl
+    of_fault word.Words = inl refl
+    of_fault word.Mode = inl refl
+    of_fault word.Values = inl refl
+    of_fault (word.Option which) = inl refl
+    of_fault word.NotBuilt = inl refl

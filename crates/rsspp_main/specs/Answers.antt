@@ -1,27 +1,39 @@
--- What each request does.
-use Rattle.std.specs.Prelude.{◌≡◌, ℕ, Option, None, Some}
-use Rattle.indirection.specs.Tables.{owners_in_turn}
-use Rattle.toeplitz.specs.declared.key.TheConstants.{DEFAULT_KEY}
+-- What the words ask for, and what a run says of it.
+use Rattle.std.specs.Prelude.{◌≡◌, ◌⊎◌, Option, Some, Result, Ok, Err}
+use Rattle.command_words.specs.declared.command.Command.{Command}
+use Rattle.command_words.specs.declared.mode.Mode.{Mode}
+use Rattle.command_words.specs.declared.mode.Mode.TheVariants.{Report, Hash, Plan, Make, Demo}
+use Rattle.command_words.specs.declared.word_fault.WordFault.{WordFault}
+use Rattle.command_words.specs.declared.word_fault.WordFault.TheVariants as word
 use Rattle.traffic_gen.specs.Traffic.{traffic}
-use Rattle.rsspp_main.specs.declared.defaults.TheConstants.{CORES, BUCKETS}
 use Rattle.rsspp_main.specs.declared.fault.TopFault.{TopFault}
-use Rattle.rsspp_main.specs.declared.fault.TopFault.TheVariants.{Words}
-use Rattle.rsspp_main.specs.declared.fault.WordFault.TheVariants as word
-use Rattle.rsspp_main.specs.declared.words.Request.{Request}
-use Rattle.rsspp_main.specs.declared.words.Request.TheVariants.{Report, Hash, Make}
+use Rattle.rsspp_main.specs.declared.fault.TopFault.TheVariants.{Words, NoMemory}
 use Rattle.rsspp_main.specs.Listing.{listing, ExplainsListing}
+use Rattle.rsspp_main.specs.Plan.{ExplainsPlan}
 use Rattle.rsspp_main.specs.Run.{Ends, Explains, ExplainsText, Untouched, report_by}
 
--- words that make no request are refused, with nothing read or written; what a request does is explained
-abbrev pub Answers : Option Request → ℕ → Ends → Ends → Option TopFault → Type 0
-Answers None limit old new fault = (fault ≡ Some (Words word.Words)) × Untouched old new
-Answers (Some (Report work)) limit old new fault = Explains limit (report_by work) old new fault
-Answers (Some Hash) limit old new fault = ExplainsListing limit (listing DEFAULT_KEY (owners_in_turn CORES BUCKETS)) old new fault
-Answers (Some (Make count number)) limit old new fault = ExplainsText (traffic count number) old new fault
+-- the fault of words, as the fault of the whole
+abbrev pub fault_of_word : WordFault → TopFault
+fault_of_word word.NoMemory = NoMemory
+fault_of_word w = Words w
 
--- the request is about the capture on the source
-abbrev pub ReadsCapture : Option Request → Type 0
-ReadsCapture None = ⊥
-ReadsCapture (Some (Report work)) = Unit {0}
-ReadsCapture (Some Hash) = Unit {0}
-ReadsCapture (Some (Make count number)) = ⊥
+-- what each mode says of a run
+abbrev pub Does : Mode → Command → Ends → Ends → Option TopFault → Type 0
+Does Report c old new fault = Explains c.options.packets (report_by c.options.work) old new fault
+Does Hash c old new fault = ExplainsListing c.options.packets (listing c.options.key c.options.start.owners) old new fault
+Does Plan c old new fault = ExplainsPlan old new fault
+Does Make c old new fault = ExplainsText (traffic c.count c.number) old new fault
+Does Demo c old new fault = ⊥
+
+-- words that are refused leave everything untouched, and so does want of memory before a command is read; a command is done by its mode
+abbrev pub Answers : Result Command WordFault → Ends → Ends → Option TopFault → Type 0
+Answers (Err e) old new fault = ((fault ≡ Some (Words e)) ⊎ (fault ≡ Some NoMemory)) × Untouched old new
+Answers (Ok c) old new fault = ((fault ≡ Some NoMemory) × Untouched old new) ⊎ Does c.mode c old new fault
+
+-- the mode is about the capture on the source
+abbrev pub ReadsCapture : Mode → Type 0
+ReadsCapture Report = Unit {0}
+ReadsCapture Hash = Unit {0}
+ReadsCapture Plan = ⊥
+ReadsCapture Make = ⊥
+ReadsCapture Demo = ⊥

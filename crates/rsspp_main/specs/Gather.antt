@@ -9,7 +9,7 @@ use Rattle.pcap_reader.specs.StreamEnd as stream
 use Rattle.flow_report.specs.declared.fault.ReportFault.{ReportFault}
 use Rattle.flow_report.specs.declared.fault.ReportFault.TheVariants as writing
 use Rattle.rsspp_main.specs.declared.fault.TopFault.{TopFault}
-use Rattle.rsspp_main.specs.declared.fault.TopFault.TheVariants.{Words, Capture, ReadFault, WriteFault, NoMemory, TooMany}
+use Rattle.rsspp_main.specs.declared.fault.TopFault.TheVariants.{Words, Capture, Line, ReadFault, WriteFault, NoMemory, TooMany}
 
 -- the error of a reader, as the fault of the whole
 abbrev pub top_fault : ReadError → TopFault
@@ -28,6 +28,7 @@ Refuses limit left (TooMany n) = (n ≡ limit) × IfSome left (λ bytes. EndsStr
 Refuses limit left ReadFault = ⊤
 Refuses limit left NoMemory = ⊤
 Refuses limit left WriteFault = ⊥
+Refuses limit left (Line k) = ⊥
 Refuses limit left (Words w) = ⊥
 
 -- a failed read is a read fault, and no other answer of the reading comes after one

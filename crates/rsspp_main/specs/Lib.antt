@@ -3,7 +3,7 @@ pub mod Gather
 pub mod Listing
 pub mod Notes
 pub mod Packets
-pub mod Request
+pub mod Plan
 pub mod Run
 pub mod Status
 pub mod Tables

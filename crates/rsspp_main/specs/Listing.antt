@@ -11,7 +11,7 @@ use Rattle.packet_fields.specs.KeyText.{key_text_of}
 use Rattle.toeplitz.specs.declared.key.Key.{Key}
 use Rattle.toeplitz.specs.Packet.{packet_hash}
 use Rattle.rsspp_main.specs.declared.fault.TopFault.{TopFault}
-use Rattle.rsspp_main.specs.declared.fault.TopFault.TheVariants.{Words, Capture, ReadFault, WriteFault, NoMemory, TooMany}
+use Rattle.rsspp_main.specs.declared.fault.TopFault.TheVariants.{Words, Capture, Line, ReadFault, WriteFault, NoMemory, TooMany}
 use Rattle.rsspp_main.specs.Gather.{Accepts}
 use Rattle.rsspp_main.specs.Packets.{packet_of}
 use Rattle.rsspp_main.specs.Run.{Ends}
@@ -65,4 +65,5 @@ ExplainsListing limit text old new (Some ReadFault) =
 ExplainsListing limit text old new (Some WriteFault) =
     Rose old.write_faults new.write_faults × (records : List Captured) × Accepts limit old.left records × IsAtEnd new.left × GetsFront old.may_hold new.may_hold (text (map packet_of records))
 ExplainsListing limit text old new (Some NoMemory) = (records : List Captured) × IfSome old.left (λ bytes. BeginsWith bytes records) × GetsFront old.may_hold new.may_hold (text (map packet_of records))
+ExplainsListing limit text old new (Some (Line k)) = ⊥
 ExplainsListing limit text old new (Some (Words w)) = ⊥

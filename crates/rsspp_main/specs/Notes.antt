@@ -6,8 +6,11 @@ use Rattle.rss_base.specs.Hex.{hex_text}
 use Rattle.rss_base.specs.Written.{Gets, GetsFront}
 use Rattle.pcap_reader.specs.declared.fault.Break.{Break}
 use Rattle.pcap_reader.specs.declared.fault.Break.TheVariants.{ShortHeader, BadMagic, BadVersion, BadLink, TooLong, ShortRecord}
+use Rattle.command_words.specs.declared.word_fault.WordFault.{WordFault}
+use Rattle.command_words.specs.declared.word_fault.WordFault.TheVariants as word
+use Rattle.command_words.specs.Words.{dashed, option_text}
 use Rattle.rsspp_main.specs.declared.fault.TopFault.{TopFault}
-use Rattle.rsspp_main.specs.declared.fault.TopFault.TheVariants.{Words, Capture, ReadFault, WriteFault, NoMemory, TooMany}
+use Rattle.rsspp_main.specs.declared.fault.TopFault.TheVariants.{Words, Capture, Line, ReadFault, WriteFault, NoMemory, TooMany}
 
 -- the line of a capture that is refused
 abbrev pub break_line : Break → List ℕ
@@ -20,10 +23,20 @@ break_line (TooLong at length) =
 break_line (ShortRecord at have) =
     codes "rsspp: capture refused: record " ++ (decimal at ++ (codes " ends after " ++ (decimal have ++ (codes " bytes" ++ 10 ∷ []))))
 
+-- the line of words that are refused
+abbrev pub word_line : WordFault → List ℕ
+word_line word.NoMemory = codes "rsspp: want of memory" ++ 10 ∷ []
+word_line word.Words = codes "rsspp: words refused" ++ 10 ∷ []
+word_line word.Mode = codes "rsspp: bad mode" ++ 10 ∷ []
+word_line word.Values = codes "rsspp: bad values" ++ 10 ∷ []
+word_line (word.Option which) = codes "rsspp: bad option " ++ (dashed (option_text which) ++ 10 ∷ [])
+word_line word.NotBuilt = codes "rsspp: words not built" ++ 10 ∷ []
+
 -- the line of a fault
 abbrev pub line_of : TopFault → List ℕ
-line_of (Words w) = codes "rsspp: words refused" ++ 10 ∷ []
+line_of (Words w) = word_line w
 line_of (Capture e) = break_line e
+line_of (Line k) = codes "rsspp: plan refused: line " ++ (decimal k ++ 10 ∷ [])
 line_of ReadFault = codes "rsspp: read fault" ++ 10 ∷ []
 line_of WriteFault = codes "rsspp: write fault" ++ 10 ∷ []
 line_of NoMemory = codes "rsspp: want of memory" ++ 10 ∷ []

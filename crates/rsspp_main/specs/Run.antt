@@ -12,7 +12,7 @@ use Rattle.flow_work.specs.OrderFold.{folded, order_text}
 use Rattle.flow_work.specs.declared.work_name.WorkName.{WorkName}
 use Rattle.flow_work.specs.declared.work_name.WorkName.TheVariants.{Count, TcpFlags, Gaps, OrderFold}
 use Rattle.rsspp_main.specs.declared.fault.TopFault.{TopFault}
-use Rattle.rsspp_main.specs.declared.fault.TopFault.TheVariants.{Words, Capture, ReadFault, WriteFault, NoMemory, TooMany}
+use Rattle.rsspp_main.specs.declared.fault.TopFault.TheVariants.{Words, Capture, Line, ReadFault, WriteFault, NoMemory, TooMany}
 use Rattle.rsspp_main.specs.Packets.{packet_of}
 use Rattle.rsspp_main.specs.Gather.{Accepts, Refuses}
 use Rattle.flow_report.specs.Report.{report}
@@ -45,6 +45,7 @@ Explains limit text old new (Some (TooMany n)) = Refuses limit old.left (TooMany
 Explains limit text old new (Some ReadFault) = Rose old.read_faults new.read_faults × Silent old new
 Explains limit text old new (Some WriteFault) = Rose old.write_faults new.write_faults × WroteFront limit text old new
 Explains limit text old new (Some NoMemory) = Silent old new ⊎ WroteFront limit text old new
+Explains limit text old new (Some (Line k)) = ⊥
 Explains limit text old new (Some (Words w)) = ⊥
 
 -- nothing was read or written, and nothing failed
@@ -62,6 +63,7 @@ ExplainsText text old new (Some (Capture e)) = ⊥
 ExplainsText text old new (Some (TooMany n)) = ⊥
 ExplainsText text old new (Some ReadFault) = ⊥
 ExplainsText text old new (Some NoMemory) = ⊥
+ExplainsText text old new (Some (Line k)) = ⊥
 ExplainsText text old new (Some (Words w)) = ⊥
 
 -- the report of a list of packets by a work

@@ -1,14 +1,8 @@
 ghost use Rattle.std.specs.Prelude.{◌≡◌, Some};
 ghost use Rattle.rsspp_main.specs.Status.{status_of};
 
+use command_words::WordFault;
 use pcap_reader::Break;
-
-/// Why words are refused.
-#[derive(Clone, Copy, Debug, PartialEq, Eq)]
-pub enum WordFault {
-    /// They aren't a list of words that the program knows.
-    Words,
-}
 
 /// Why a run wasn't done.
 #[derive(Clone, Copy, Debug, PartialEq, Eq)]
@@ -17,6 +11,8 @@ pub enum TopFault {
     Words(WordFault),
     /// The capture breaks so.
     Capture(Break),
+    /// This line of the plan text, counted from 1, is its first bad one.
+    Line { line: u32 },
     /// The source failed to read.
     ReadFault,
     /// The output failed to be written.
@@ -28,14 +24,15 @@ pub enum TopFault {
 }
 
 impl TopFault {
-    /// The status that the program ends with: 2 for words, 3 for a capture, 4 for a failed read,
-    /// 5 for a failed write, 6 for memory, 7 for too many packets.
+    /// The status that the program ends with: 2 for words, 3 for a capture or a plan text, 4
+    /// for a failed read, 5 for a failed write, 6 for memory, 7 for too many packets.
     pub fn status(&self) -> u8
         ensures { result ≡ status_of (Some self.now) }
     {
         match *self {
             TopFault::Words(_) => 2,
             TopFault::Capture(_) => 3,
+            TopFault::Line { line: _ } => 3,
             TopFault::ReadFault => 4,
             TopFault::WriteFault => 5,
             TopFault::NoMemory => 6,

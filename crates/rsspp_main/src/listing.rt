@@ -93,7 +93,7 @@ fn ended(failed: bool) -> Result<(), TopFault>
 /// Reads a whole capture, and writes a line for each packet as it comes: its number, hash, bucket
 /// and core, and the text of its key. After a failed write nothing more is written, and the
 /// capture is read to its end all the same, so that what is wrong with it is told first.
-pub fn hash_listing<S: Source, K: Sink>(
+pub fn list_hashes<S: Source, K: Sink>(
     alloc: Global,
     limit: u32,
     key: &Key,

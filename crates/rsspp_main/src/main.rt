@@ -4,29 +4,27 @@
 //! status means for the bytes that were read and written. `main` makes the real ends and calls it.
 #![tactic(auto)]
 
-mod defaults;
 mod fault;
 mod gather;
 mod listing;
+mod modes;
 mod notes;
-mod number;
 mod packets;
 mod run;
-mod spread;
 mod tables;
 #[cfg(test)]
 mod tests;
 mod top;
-mod words;
 
-pub use fault::{TopFault, WordFault};
+pub use command_words::{Command, Mode, OptionName, WordFault, read_words};
+pub use fault::TopFault;
+pub use modes::{hash_listing, make_capture, plan, report};
 pub use notes::fault_line;
 use rss_base::{OpenGate, StdSink, StdSource};
 use std::env;
 use std::io::{self, BufWriter};
 use std::process::ExitCode;
 pub use top::rsspp;
-pub use words::Request;
 
 // The words after the program's name.
 fn words_of(rt: &HostRuntime) -> io::Result<Vec<String>> {

@@ -2,9 +2,10 @@
 ghost use Rattle.std.specs.Prelude.{◌≡◌, OnOk, OnErr};
 ghost use Rattle.rss_base.specs.Faults.{HasCause};
 ghost use Rattle.rss_base.specs.Written.{Gets, GetsFront};
-ghost use Rattle.rsspp_main.specs.Notes.{line_of, break_line};
+ghost use Rattle.rsspp_main.specs.Notes.{line_of, break_line, word_line};
 
 use crate::TopFault;
+use command_words::WordFault;
 use pcap_reader::Break;
 use rss_base::{Failed, Piece, Sink, write_pieces};
 
@@ -72,6 +73,29 @@ fn write_break<F: Sink>(e: Break, notes: &mut F) -> Result<(), Failed>
     }
 }
 
+// Writes the line of words that are refused.
+fn write_word_fault<F: Sink>(fault: WordFault, notes: &mut F) -> Result<(), Failed>
+    ensures ok { OnOk result (Gets (F.may_hold notes.old) (F.may_hold notes.new) (word_line fault)) }
+    ensures err { OnErr result (GetsFront (F.may_hold notes.old) (F.may_hold notes.new) (word_line fault)) }
+    ensures cause { HasCause (F.faults notes.old) (F.faults notes.new) result }
+{
+    match fault {
+        WordFault::NoMemory => write_pieces(notes, &[Piece::Bytes(b"rsspp: want of memory\n")]),
+        WordFault::Words => write_pieces(notes, &[Piece::Bytes(b"rsspp: words refused\n")]),
+        WordFault::Mode => write_pieces(notes, &[Piece::Bytes(b"rsspp: bad mode\n")]),
+        WordFault::Values => write_pieces(notes, &[Piece::Bytes(b"rsspp: bad values\n")]),
+        WordFault::Option { which } => write_pieces(
+            notes,
+            &[
+                Piece::Bytes(b"rsspp: bad option "),
+                Piece::Bytes(which.word().as_bytes()),
+                Piece::Bytes(b"\n"),
+            ],
+        ),
+        WordFault::NotBuilt => write_pieces(notes, &[Piece::Bytes(b"rsspp: words not built\n")]),
+    }
+}
+
 /// Writes the line of a fault, and takes no memory.
 pub fn fault_line<F: Sink>(fault: &TopFault, notes: &mut F) -> Result<(), Failed>
     ensures ok { OnOk result (Gets (F.may_hold notes.old) (F.may_hold notes.new) (line_of fault.now)) }
@@ -79,8 +103,16 @@ pub fn fault_line<F: Sink>(fault: &TopFault, notes: &mut F) -> Result<(), Failed
     ensures cause { HasCause (F.faults notes.old) (F.faults notes.new) result }
 {
     match *fault {
-        TopFault::Words(_) => write_pieces(notes, &[Piece::Bytes(b"rsspp: words refused\n")]),
+        TopFault::Words(fault) => write_word_fault(fault, notes),
         TopFault::Capture(e) => write_break(e, notes),
+        TopFault::Line { line } => write_pieces(
+            notes,
+            &[
+                Piece::Bytes(b"rsspp: plan refused: line "),
+                Piece::Number(u64::from(line)),
+                Piece::Bytes(b"\n"),
+            ],
+        ),
         TopFault::ReadFault => write_pieces(notes, &[Piece::Bytes(b"rsspp: read fault\n")]),
         TopFault::WriteFault => write_pieces(notes, &[Piece::Bytes(b"rsspp: write fault\n")]),
         TopFault::NoMemory => write_pieces(notes, &[Piece::Bytes(b"rsspp: want of memory\n")]),

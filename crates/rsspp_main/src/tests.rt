@@ -3,7 +3,9 @@ mod captures;
 mod faults;
 mod forms;
 mod hashes;
+mod plans;
 mod rows;
+mod words;
 mod works;
 
 use crate::rsspp;
@@ -53,6 +55,23 @@ pub fn run(alloc: Global, words: &[&str], capture: &[u8], ends: Ends) -> Result<
         out: out.bytes().to_vec(alloc)?,
         notes: notes.bytes().to_vec(alloc)?,
     })
+}
+
+/// Whether a run with these words has this status, output and note.
+pub fn answers(
+    alloc: Global,
+    words: &[&str],
+    input: &[u8],
+    status: u8,
+    out: &str,
+    notes: &str,
+) -> Result<bool, Fail> {
+    let ran = run(alloc, words, input, WHOLE)?;
+    Ok(
+        ran.status == status
+            && ran.out.as_slice() == out.as_bytes()
+            && ran.notes.as_slice() == notes.as_bytes(),
+    )
 }
 
 /// Whether a report of the capture has this status, output and note, in cuts of 1 to 7 bytes and

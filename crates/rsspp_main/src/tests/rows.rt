@@ -1,5 +1,5 @@
 use crate::tests::captures::{ARP, HEADER, SEGMENT, capture_of};
-use crate::tests::{WHOLE, reports, run};
+use crate::tests::reports;
 use std::test::Fail;
 
 #[test]
@@ -74,17 +74,5 @@ fn a_cut_record_is_refused(rt: HostRuntime) -> Result<(), Fail> {
     capture.truncate(93);
     let line = "rsspp: capture refused: record 0 ends after 69 bytes\n";
     assert!(rt; reports(rt.alloc(), &capture, 3, "", line)?);
-    Ok(())
-}
-
-#[test]
-fn other_words_are_refused(rt: HostRuntime) -> Result<(), Fail> {
-    let lists: [&[&str]; 4] = [&[], &["other"], &["report", "report"], &["Report"]];
-    for words in lists {
-        let ran = run(rt.alloc(), words, &HEADER, WHOLE)?;
-        assert_eq!(rt; ran.status, 2);
-        assert!(rt; ran.out.is_empty());
-        assert!(rt; ran.notes.as_slice() == b"rsspp: words refused\n".as_slice());
-    }
     Ok(())
 }

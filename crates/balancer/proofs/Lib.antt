@@ -1,0 +1,16 @@
+pub mod AllMoves
+pub mod Best
+pub mod BucketLines
+pub mod Buffers
+pub mod Carried
+pub mod Choices
+pub mod Chosen
+pub mod Falls
+pub mod Moves
+pub mod NextLines
+pub mod Owners
+pub mod Pieces
+pub mod PlanLaw
+pub mod Spelled
+pub mod Sums
+pub mod Ties

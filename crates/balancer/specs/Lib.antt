@@ -1,0 +1,16 @@
+pub mod Afterwards
+pub mod BalancerView
+pub mod Better
+pub mod Greedy
+pub mod Imbalance
+pub mod Lines
+pub mod Moves
+pub mod NextLine
+pub mod Numbers
+pub mod PlanAnswer
+pub mod PlanForm
+pub mod PlanLines
+pub mod PlanRead
+pub mod PlanReading
+pub mod PlanText
+pub mod Standing

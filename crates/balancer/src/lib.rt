@@ -1,0 +1,35 @@
+//! Rounds of moves that lower the imbalance of the measured loads, and the plan of one round.
+//!
+//! [`Balancer::propose`] is proved equal to the greedy round (`specs/Greedy.antt`), which looks at
+//! all pairs of a bucket and a core each time. [`rounds_lower`] is the law behind it: each
+//! proposal lowers the imbalance by twice the square of the number of cores times its gain.
+//!
+//! [`plan_text`] reads one instance and writes its round. It is proved against the instance that
+//! the lines of the whole text spell, or the first bad line among them (`specs/PlanForm.antt`);
+//! [`plans_have_lines`] says the same line by line.
+#![tactic(auto)]
+
+mod balancer;
+mod choice;
+mod laws;
+mod limits;
+mod line;
+mod number;
+mod place;
+mod plan;
+mod plan_fault;
+mod plan_line;
+mod plan_reader;
+mod round;
+mod round_text;
+mod standing;
+#[cfg(test)]
+mod tests;
+mod weigh;
+mod window;
+
+pub use balancer::Balancer;
+pub use laws::{plans_have_lines, rounds_lower};
+pub use limits::{MOST_LOAD, MOST_PROPOSALS};
+pub use plan::plan_text;
+pub use plan_fault::PlanFault;

@@ -1,0 +1,54 @@
+// A round of proposals.
+ghost use Rattle.std.specs.Prelude.{◌≡◌, ◌≢◌, ◌≤◌, ◌<◌, ◌+◌, ◌-◌, ◌^◌, [], length, vec_capacity, slice_index, slice_set};
+ghost use Rattle.balancer.specs.Greedy.{greedy, opening};
+ghost use Rattle.balancer.specs.Standing.{IsWeighed};
+
+use crate::choice::best;
+use crate::standing::Standing;
+use indirection::{Loads, Proposal};
+
+// Gives the bucket to the other core, which carries its load from then on.
+fn make_move(carried: &mut [u64], owners: &mut [u8], load: u64, p: &Proposal)
+    requires bucket { p.now.bucket < length owners.old }
+    requires from { p.now.from < length carried.old }
+    requires to { p.now.to < length carried.old }
+    requires some { load ≤ slice_index carried.old p.now.from }
+    requires apart { p.now.from ≢ p.now.to }
+    requires fits { slice_index carried.old p.now.to + load < 2 ^ 64 }
+    ensures owners { owners.new ≡ slice_set owners.old p.now.bucket p.now.to }
+    ensures carried { carried.new ≡ slice_set (slice_set carried.old p.now.from (slice_index carried.old p.now.from - load)) p.now.to (slice_index carried.old p.now.to + load) }
+{
+    carried[p.from as usize] -= load;
+    carried[p.to as usize] += load;
+    owners[p.bucket as usize] = p.to;
+}
+
+/// Makes a round of up to so many proposals, with what the cores carry and the owners after each.
+pub fn run_round(
+    carried: &mut [u64],
+    owners: &mut [u8],
+    proposals: &mut Vec<Proposal>,
+    loads: &Loads,
+    limit: u8,
+)
+    requires weighed { IsWeighed (opening (length carried.old) loads.now owners.old) carried.old }
+    requires empty { proposals.old.items ≡ [] }
+    requires room { limit ≤ vec_capacity proposals.old }
+    ensures proposals { proposals.new.items ≡ greedy limit (opening (length carried.old) loads.now owners.old) }
+    ensures room { vec_capacity proposals.new ≡ vec_capacity proposals.old }
+{
+    'round: for _ in 0..limit {
+        let standing = Standing {
+            loads,
+            owners,
+            carried,
+            proposals,
+        };
+        let Some(proposal) = best(&standing) else {
+            return;
+        };
+        let load = loads.bucket()[proposal.bucket as usize];
+        make_move(carried, owners, load, &proposal);
+        proposals.push_reserved(proposal);
+    }
+}

@@ -1,0 +1,17 @@
+pub mod Making
+pub mod Rules
+pub mod KindLemmas
+pub mod Steps
+pub mod Apart
+pub mod Walks
+pub mod Distinct
+pub mod Accepted
+pub mod LookLemmas
+pub mod ValueLemmas
+pub mod ListLemmas
+pub mod WholeLemmas
+pub mod RefusalLemmas
+pub mod ValueRanges
+pub mod TableLemmas
+pub mod CommandRanges
+pub mod FaultLemmas

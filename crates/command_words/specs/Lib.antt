@@ -1,0 +1,9 @@
+pub mod Words
+pub mod Refusals
+pub mod Values
+pub mod Reading
+pub mod Ranges
+pub mod Look
+pub mod Made
+pub mod Parsed
+pub mod Taken

@@ -1,0 +1,19 @@
+use Rattle.std.proofs.Common.{◌≡◌, List, length, map}
+use Rattle.pcap_reader.specs.declared.reader.Progress.TheVariants.{Going}
+use Rattle.pcap_reader.specs.Capture.{Captured}
+use Rattle.pcap_reader.specs.Stream.{SoFar}
+use Rattle.pcap_reader.specs.Reading.{still}
+use Rattle.rsspp_main.specs.Listing.{listing, IsListed}
+use Rattle.rsspp_main.specs.Packets.{packet_of}
+use Rattle.rsspp_main.proofs.listing.list_hashes.Given as goal
+
+abbrev pub invariant-packets : goal.invariant-packets
+invariant-packets g l =
+    record {
+      records : (rs : List Captured) × (length rs ≡ l.number) × SoFar (g.S.Source.left l.fn.source) l.reader.form rs (still l.reader (g.S.Source.left l.source))
+          × IsListed (g.K.Sink.faults l.fn.out) (g.K.Sink.faults l.out) (g.K.Sink.may_hold l.fn.out) (g.K.Sink.may_hold l.out) l.failed (listing l.key l.spread.owners (map packet_of rs));
+      given : l.reader.given ≡ l.number;
+      going : l.reader.progress ≡ Going;
+      quiet : g.S.Source.faults l.source ≡ g.S.Source.faults l.fn.source;
+      origin : g.S.Source.origin l.source ≡ g.S.Source.origin l.fn.source;
+    }

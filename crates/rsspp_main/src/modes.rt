@@ -1,0 +1,105 @@
+// The modes of the program, each by the command that asks for it.
+ghost use Rattle.std.specs.Prelude.{◌≡◌, ◌≤◌, None, Some, OnOk, OnErr, IfErr, MatchResult};
+ghost use Rattle.rss_base.specs.Faults.{HasCause};
+ghost use Rattle.rss_base.specs.Written.{Gets, GetsFront};
+ghost use Rattle.traffic_gen.specs.Traffic.{traffic};
+ghost use Rattle.rsspp_main.specs.Listing.{listing, ExplainsListing};
+ghost use Rattle.rsspp_main.specs.Plan.{plan_fault, ExplainsPlan};
+ghost use Rattle.rsspp_main.specs.Run.{ends, Explains, report_by};
+
+use crate::TopFault;
+use crate::listing::list_hashes;
+use crate::run::report_once;
+use balancer::{PlanFault, plan_text};
+use command_words::Command;
+use flow_work::{Count, Gaps, OrderFold, TcpFlags, WorkName};
+use rss_base::{Sink, Source};
+use std::alloc::Global;
+use traffic_gen::{MOST_RECORDS, make};
+
+/// Reports the capture on the source by the command's work, and takes at most so many packets as
+/// the command says. Its other options don't show in the report.
+pub fn report<S: Source, K: Sink>(
+    alloc: Global,
+    command: &Command,
+    source: &mut S,
+    out: &mut K,
+) -> Result<(), TopFault>
+    ensures outcome { let before = ends (S.left source.old) (S.faults source.old) (K.faults out.old) (K.may_hold out.old) in
+        let now = ends (S.left source.new) (S.faults source.new) (K.faults out.new) (K.may_hold out.new) in
+        let explains = Explains command.now.options.packets (report_by command.now.options.work) before now in
+        MatchResult result (λ _. explains None) (λ fault. explains (Some fault)) }
+    ensures origin { S.origin source.new ≡ S.origin source.old }
+{
+    let options = &command.options;
+    let limit = options.packets;
+    let key = &options.key;
+    let spread = &options.start;
+    match options.work {
+        WorkName::Count => report_once(alloc, limit, key, spread, &Count, source, out),
+        WorkName::TcpFlags => report_once(alloc, limit, key, spread, &TcpFlags, source, out),
+        WorkName::Gaps => report_once(alloc, limit, key, spread, &Gaps, source, out),
+        WorkName::OrderFold => report_once(alloc, limit, key, spread, &OrderFold, source, out),
+    }
+}
+
+/// Lists the hash, bucket and core of each packet of the capture on the source, by the command's
+/// key and starting table.
+pub fn hash_listing<S: Source, K: Sink>(
+    alloc: Global,
+    command: &Command,
+    source: &mut S,
+    out: &mut K,
+) -> Result<(), TopFault>
+    ensures outcome { let before = ends (S.left source.old) (S.faults source.old) (K.faults out.old) (K.may_hold out.old) in
+        let now = ends (S.left source.new) (S.faults source.new) (K.faults out.new) (K.may_hold out.new) in
+        let text = listing command.now.options.key command.now.options.start.owners in
+        let explains = ExplainsListing command.now.options.packets text before now in
+        MatchResult result (λ _. explains None) (λ fault. explains (Some fault)) }
+    ensures origin { S.origin source.new ≡ S.origin source.old }
+{
+    let options = &command.options;
+    let limit = options.packets;
+    list_hashes(alloc, limit, &options.key, &options.start, source, out)
+}
+
+// The fault that a fault of a plan is.
+fn fault_of_plan(fault: PlanFault) -> TopFault
+    ensures { result ≡ plan_fault fault }
+{
+    match fault {
+        PlanFault::ReadFault => TopFault::ReadFault,
+        PlanFault::WriteFault => TopFault::WriteFault,
+        PlanFault::BadLine { line } => TopFault::Line { line },
+        PlanFault::NoMemory => TopFault::NoMemory,
+    }
+}
+
+/// Reads a plan text on the source, and writes the moves of its round, and the loads and the
+/// imbalance after them.
+pub fn plan<S: Source, K: Sink>(alloc: Global, source: &mut S, out: &mut K) -> Result<(), TopFault>
+    ensures outcome { let before = ends (S.left source.old) (S.faults source.old) (K.faults out.old) (K.may_hold out.old) in
+        let now = ends (S.left source.new) (S.faults source.new) (K.faults out.new) (K.may_hold out.new) in
+        let explains = ExplainsPlan before now in
+        MatchResult result (λ _. explains None) (λ fault. explains (Some fault)) }
+    ensures origin { S.origin source.new ≡ S.origin source.old }
+{
+    match plan_text(alloc, source, out) {
+        Ok(()) => Ok(()),
+        Err(fault) => Err(fault_of_plan(fault)),
+    }
+}
+
+/// Writes the generated capture of the command's two values, and takes no memory.
+pub fn make_capture<K: Sink>(command: &Command, out: &mut K) -> Result<(), TopFault>
+    requires { command.now.count ≤ MOST_RECORDS }
+    ensures ok { OnOk result (Gets (K.may_hold out.old) (K.may_hold out.new) (traffic command.now.count command.now.number)) }
+    ensures err { OnErr result (GetsFront (K.may_hold out.old) (K.may_hold out.new) (traffic command.now.count command.now.number)) }
+    ensures cause { HasCause (K.faults out.old) (K.faults out.new) result }
+    ensures only { IfErr result (λ fault. fault ≡ TopFault.WriteFault) }
+{
+    match make(out, command.count, command.number) {
+        Ok(()) => Ok(()),
+        Err(_) => Err(TopFault::WriteFault),
+    }
+}
