@@ -52,9 +52,21 @@ fn status(rt: &HostRuntime) -> io::Result<u8> {
     Ok(status)
 }
 
+// The fault of a run that couldn't begin: words that aren't UTF-8 are refused, and else memory was.
+fn fault_of_start(error: &io::Error) -> TopFault {
+    match error.kind() {
+        io::ErrorKind::InvalidData => TopFault::Words(WordFault::Words),
+        _ => TopFault::NoMemory,
+    }
+}
+
 fn main(rt: HostRuntime) -> ExitCode {
     match status(&rt) {
         Ok(status) => ExitCode::from(status),
-        Err(_) => ExitCode::from(TopFault::NoMemory.status()),
+        Err(error) => {
+            let fault = fault_of_start(&error);
+            let _ = fault_line(&fault, &mut StdSink::new(rt.stderr()));
+            ExitCode::from(fault.status())
+        }
     }
 }
