@@ -1,0 +1,5 @@
+pub mod Seen
+pub mod Cells
+pub mod LaneEye
+pub mod NewEye
+pub mod Local

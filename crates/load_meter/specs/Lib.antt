@@ -1,0 +1,2 @@
+pub mod LoadEye
+pub mod LocalMeter

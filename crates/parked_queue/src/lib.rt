@@ -1,0 +1,16 @@
+//! Parked cells: the packets and marks of buckets that a core can't work yet, since it has not
+//! taken their tables over.
+//!
+//! A [`Lot`] is seen by contracts as the list of cells of each bucket, oldest first, and the
+//! buckets that have some, in the order in which they began to wait (`specs/Parked.antt`). The cells
+//! are chained by their links, so parking moves no packet and takes no memory.
+#![tactic(auto)]
+
+mod chains;
+mod line;
+mod lot;
+mod parking;
+#[cfg(test)]
+mod tests;
+
+pub use lot::Lot;
