@@ -1,0 +1,30 @@
+//! The worker of a core: it takes what the dispatcher sends, and works each packet in its bucket's
+//! table, at its place.
+//!
+//! A bucket whose table another core still has waits: its packets are parked until the table can be
+//! claimed. Behind a stint's mark, and once End was taken, the table goes back to the shelf. A
+//! [`Worker::turn`] does the first rule that is due by what its ends answer. Its contract tells each
+//! rule (`specs/Rules.antt`), over the traits of the ends, so that it holds on one thread and of
+//! ends that threads share alike; and it keeps the worker tied to its ends (`specs/Tied.antt`), from
+//! which it follows that each packet finds its table with all before it done.
+#![tactic(auto)]
+
+mod act;
+mod claim;
+mod desk;
+mod give;
+mod laws;
+mod release;
+mod slot;
+mod state;
+mod take;
+#[cfg(test)]
+mod tests;
+mod turn;
+mod worker;
+mod worker_turn;
+
+pub use laws::{turns_are_events, workers_keep_order, workers_share_a_shelf};
+pub use slot::Slot;
+pub use worker::Worker;
+pub use worker_turn::WorkerTurn;
