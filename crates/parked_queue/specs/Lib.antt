@@ -1,2 +1,3 @@
 pub mod Parked
 pub mod Lined
+pub mod Chained

@@ -1,15 +1,15 @@
 // The line of waiting buckets.
 ghost use Rattle.std.specs.Prelude.{◌≡◌, ◌<◌, [], vec_len, vec_capacity};
-ghost use Rattle.packet_pool.specs.Chain.{chain};
+ghost use Rattle.parked_queue.specs.Chained.{cells_in};
 ghost use Rattle.parked_queue.specs.Parked.{removed, also_waits, still_waits};
 
-use packet_pool::Link;
+use crate::chains::Chains;
 
 // Before a cell is parked behind the cells of a bucket: the bucket begins to wait where it has
 // none.
-pub(crate) fn join_line(line: &mut Vec<u16>, bucket: u16, cells: &Link)
-    requires { chain cells.now ≡ [] → vec_len line.old < vec_capacity line.old }
-    ensures items { line.new.items ≡ also_waits (chain cells.now) bucket line.old.items }
+pub(crate) fn join_line(line: &mut Vec<u16>, bucket: u16, cells: &Option<Chains>)
+    requires { cells_in cells.now ≡ [] → vec_len line.old < vec_capacity line.old }
+    ensures items { line.new.items ≡ also_waits (cells_in cells.now) bucket line.old.items }
     ensures room { vec_capacity line.new ≡ vec_capacity line.old }
 {
     if cells.is_none() {
@@ -18,8 +18,8 @@ pub(crate) fn join_line(line: &mut Vec<u16>, bucket: u16, cells: &Link)
 }
 
 // When these cells are left of a bucket: it waits no more where there are none.
-pub(crate) fn leave_line(line: &mut Vec<u16>, bucket: u16, cells: &Link)
-    ensures items { line.new.items ≡ still_waits (chain cells.now) bucket line.old.items }
+pub(crate) fn leave_line(line: &mut Vec<u16>, bucket: u16, cells: &Option<Chains>)
+    ensures items { line.new.items ≡ still_waits (cells_in cells.now) bucket line.old.items }
     ensures room { vec_capacity line.new ≡ vec_capacity line.old }
 {
     if cells.is_none() {

@@ -2,8 +2,9 @@ ghost use Rattle.std.specs.Prelude.{◌≡◌, ◌≢◌, ◌<◌, ◌≤◌, �
 ghost use Rattle.packet_pool.specs.Facts.{facts, IsAlone};
 ghost use Rattle.parked_queue.specs.Parked.{parked, unparked, cells_at, FirstIs, first_place, no_cells, AllEmpty};
 
+use crate::chains::{Chains, first_place};
 use crate::parking::{park_in, take_from};
-use packet_pool::{Cell, Link};
+use packet_pool::Cell;
 use rss_base::NoMemory;
 use std::alloc::Global;
 use std::marker::Model;
@@ -11,28 +12,28 @@ use std::marker::Model;
 /// The parked cells of one core: those of each bucket, and the line of buckets that wait.
 #[derive(Drop)]
 pub struct Lot {
-    // the cells of each bucket, oldest first
-    chains: Vec<Link>,
+    // the cells of each bucket, if it has some
+    chains: Vec<Option<Chains>>,
     // the buckets that have cells, in the order in which they began to wait
     line: Vec<u16>,
 }
 
 impl Model for Lot {
     ghost use Rattle.std.specs.Prelude.{map, vec_capacity};
-    ghost use Rattle.packet_pool.specs.Chain.{chain};
+    ghost use Rattle.parked_queue.specs.Chained.{cells_in};
     ghost use Rattle.parked_queue.specs.Parked.{Parked, waits};
     ghost use Rattle.parked_queue.specs.Lined.{IsLined};
 
     ghost Value = { Parked };
 
-    ghost view = { λ l. waits (map chain l.chains.items) l.line.items };
+    ghost view = { λ l. waits (map cells_in l.chains.items) l.line.items };
 
-    ghost invariant = { λ l. IsLined (map chain l.chains.items) l.line.items (vec_capacity l.line) };
+    ghost invariant = { λ l. IsLined (map cells_in l.chains.items) l.line.items (vec_capacity l.line) };
 }
 
 impl Lot {
-    /// A lot without cells, for buckets below a number. It takes the memory of one link and one
-    /// place in line for each bucket, and none later.
+    /// A lot without cells, for buckets below a number. It takes memory for each bucket's two
+    /// chains and its place in line, and none later.
     pub fn new(alloc: Global, buckets: u16) -> Result<Lot, NoMemory>
         ensures { IfOk result (λ l. l ≡ no_cells buckets) }
     {
@@ -48,8 +49,8 @@ impl Lot {
         Ok(Lot { chains, line })
     }
 
-    /// Parks a cell behind those of its bucket. A bucket that had none begins to wait, behind all
-    /// that wait.
+    /// Parks a cell behind those of its bucket, however many they are, in constant time. A bucket
+    /// that had none begins to wait, behind all that wait.
     pub fn park(&mut self, cell: Box<Cell>)
         requires range { (facts cell.value).bucket < length self.old.cells }
         requires alone { IsAlone cell.value }
@@ -85,7 +86,7 @@ impl Lot {
     {
         match &self.chains[bucket as usize] {
             None => None,
-            Some(cell) => Some(cell.place),
+            Some(cells) => Some(first_place(cells)),
         }
     }
 }

@@ -68,11 +68,14 @@ fn cells_leave_in_the_order_in_which_they_came(rt: HostRuntime) -> Result<(), Fa
     park(rt.alloc(), &mut lot, 3, 5)?;
     park(rt.alloc(), &mut lot, 1, 0)?;
     park(rt.alloc(), &mut lot, 3, 6)?;
+    park(rt.alloc(), &mut lot, 3, 7)?;
     assert_eq!(rt; lot.first_place(3), Some(5));
     assert_eq!(rt; taken(&mut lot, 3), Some((3, 5)));
-    park(rt.alloc(), &mut lot, 3, 7)?;
+    park(rt.alloc(), &mut lot, 3, 8)?;
+    assert_eq!(rt; lot.first_place(3), Some(6));
     assert_eq!(rt; taken(&mut lot, 3), Some((3, 6)));
     assert_eq!(rt; taken(&mut lot, 3), Some((3, 7)));
+    assert_eq!(rt; taken(&mut lot, 3), Some((3, 8)));
     assert_eq!(rt; taken(&mut lot, 3), None);
     assert_eq!(rt; lot.waiting(0), Some(1));
     Ok(())

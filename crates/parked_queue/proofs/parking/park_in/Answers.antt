@@ -4,7 +4,7 @@ use Rattle.std.proofs.lemmas.List.{set-set}
 use Rattle.packet_pool.specs.declared.cell.Cell.{Cell, out-Cell}
 use Rattle.packet_pool.specs.declared.cell.Facts.{Facts}
 use Rattle.packet_pool.specs.Facts.{facts}
-use Rattle.packet_pool.specs.Chain.{chain}
+use Rattle.parked_queue.specs.Chained.{cells_in}
 use Rattle.parked_queue.specs.Parked.{also_waits}
 use Rattle.parked_queue.proofs.Lines.{room_to_wait}
 use Rattle.parked_queue.proofs.Chained.{map_length}
@@ -20,21 +20,21 @@ pub join_line-requires : goal.join_line-requires
 join_line-requires c = λ none.
     let l = c.args.chains.now.items in let b : ℕ = (out-Cell c.deref.result.now).bucket in
     let b_is : b ≡ (facts c.args.cell.value).bucket = ap (λ (x : Cell). (out-Cell x).bucket) c.deref.ensures in let wide = map_length l in let r = c.requires.range in
-    let room : length c.args.line.now.items < vec_capacity c.args.line.now = room_to_wait (map chain l) _ _ b c.requires.lined (omega arith) (sym c.take_chain-cells.ensures.given ∙ none) in
+    let room : length c.args.line.now.items < vec_capacity c.args.line.now = room_to_wait (map cells_in l) _ _ b c.requires.lined (omega arith) (sym c.take_chains-cells.ensures.given ∙ none) in
     omega (arith, c.args.line.now.ok)
 
 pub returns-clause-is : goal.returns-clause-is
 returns-clause-is c =
-    let b : ℕ = (out-Cell c.deref.result.now).bucket in let given = c.take_chain-cells.ensures.given in
+    let b : ℕ = (out-Cell c.deref.result.now).bucket in let given = c.take_chains-cells.ensures.given in
     parked_is _ _ b _ _ (facts c.args.cell.value) (ap (λ (x : Cell). (out-Cell x).bucket) c.deref.ensures)
-    (put_behind _ _ _ b _ _ _ given c.take_chain-cells.ensures.left c.link_last.ensures c.put_chain.ensures)
+    (put_behind _ _ _ b _ _ _ given c.take_chains-cells.ensures.left c.push.ensures c.put_chains.ensures)
     (c.join_line.ensures.items ∙ ap (λ o. also_waits o b c.args.line.now.items) given)
 
 pub returns-clause-lined : goal.returns-clause-lined
 returns-clause-lined c =
-    let b : ℕ = (out-Cell c.deref.result.now).bucket in let given = c.take_chain-cells.ensures.given in
+    let b : ℕ = (out-Cell c.deref.result.now).bucket in let given = c.take_chains-cells.ensures.given in
     let b_is : b ≡ (facts c.args.cell.value).bucket = ap (λ (x : Cell). (out-Cell x).bucket) c.deref.ensures in let wide = map_length c.args.chains.now.items in let r = c.requires.range in
     lined_same _ _ _ _ _ _
-    (put_behind _ _ _ b _ _ _ given c.take_chain-cells.ensures.left c.link_last.ensures c.put_chain.ensures)
+    (put_behind _ _ _ b _ _ _ given c.take_chains-cells.ensures.left c.push.ensures c.put_chains.ensures)
     (c.join_line.ensures.items ∙ ap (λ o. also_waits o b c.args.line.now.items) given) c.join_line.ensures.room
-    (lined_parked (map chain c.args.chains.now.items) c.args.line.now.items b (vec_capacity c.args.line.now) c.requires.lined (omega arith) (facts c.args.cell.value))
+    (lined_parked (map cells_in c.args.chains.now.items) c.args.line.now.items b (vec_capacity c.args.line.now) c.requires.lined (omega arith) (facts c.args.cell.value))
