@@ -6,7 +6,7 @@ use Rattle.std.specs.Ordering.{nat_cmp, ordering_then, is_eq}
 use Rattle.std.specs.declared.cmp.Ordering.{Ordering}
 use Rattle.std.specs.declared.cmp.Ordering.TheVariants.{Less, Equal, Greater}
 use Rattle.packet_fields.specs.declared.key.Class.{Class}
-use Rattle.packet_fields.specs.declared.key.Class.TheVariants.{Tcp, Udp, Ip, Other}
+use Rattle.packet_fields.specs.declared.key.Class.TheVariants.{Tcp, Udp, Ip, Tcp6, Udp6, Ip6, Other}
 use Rattle.packet_fields.specs.declared.key.FlowKey.{FlowKey}
 use Rattle.packet_fields.specs.contracts.key.ClassPartialEq.TheImpl.{eq-value as class_eq}
 use Rattle.packet_fields.specs.contracts.key.FlowKeyPartialEq.TheImpl.{eq-value}
@@ -17,18 +17,51 @@ class_is : (c d : Class) → class_eq.it c d ≡ nat_eq (class_rank c) (class_ra
 class_is Tcp Tcp = refl
 class_is Tcp Udp = refl
 class_is Tcp Ip = refl
+class_is Tcp Tcp6 = refl
+class_is Tcp Udp6 = refl
+class_is Tcp Ip6 = refl
 class_is Tcp Other = refl
 class_is Udp Tcp = refl
 class_is Udp Udp = refl
 class_is Udp Ip = refl
+class_is Udp Tcp6 = refl
+class_is Udp Udp6 = refl
+class_is Udp Ip6 = refl
 class_is Udp Other = refl
 class_is Ip Tcp = refl
 class_is Ip Udp = refl
 class_is Ip Ip = refl
+class_is Ip Tcp6 = refl
+class_is Ip Udp6 = refl
+class_is Ip Ip6 = refl
 class_is Ip Other = refl
+class_is Tcp6 Tcp = refl
+class_is Tcp6 Udp = refl
+class_is Tcp6 Ip = refl
+class_is Tcp6 Tcp6 = refl
+class_is Tcp6 Udp6 = refl
+class_is Tcp6 Ip6 = refl
+class_is Tcp6 Other = refl
+class_is Udp6 Tcp = refl
+class_is Udp6 Udp = refl
+class_is Udp6 Ip = refl
+class_is Udp6 Tcp6 = refl
+class_is Udp6 Udp6 = refl
+class_is Udp6 Ip6 = refl
+class_is Udp6 Other = refl
+class_is Ip6 Tcp = refl
+class_is Ip6 Udp = refl
+class_is Ip6 Ip = refl
+class_is Ip6 Tcp6 = refl
+class_is Ip6 Udp6 = refl
+class_is Ip6 Ip6 = refl
+class_is Ip6 Other = refl
 class_is Other Tcp = refl
 class_is Other Udp = refl
 class_is Other Ip = refl
+class_is Other Tcp6 = refl
+class_is Other Udp6 = refl
+class_is Other Ip6 = refl
 class_is Other Other = refl
 
 tied_numbers : (a b : ℕ) → is_eq (nat_cmp a b) ≡ nat_eq a b

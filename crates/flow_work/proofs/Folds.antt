@@ -1,12 +1,12 @@
 -- What the works' folds come to, begun at any state.
-use Rattle.std.proofs.Common.{◌≡◌, ℕ, suc, ◌+◌, ◌*◌, ◌%◌, ◌^◌, ◌-◌, ◌<◌, max, List, [], ◌∷◌, length, map, refl, sym, ap, ◌∙◌, arith, cond, bit_or, Some}
+use Rattle.std.proofs.Common.{◌≡◌, ℕ, ◌+◌, ◌*◌, ◌%◌, ◌^◌, ◌-◌, ◌<◌, max, List, [], ◌∷◌, length, map, refl, sym, ap, ◌∙◌, arith, cond, bit_or, Some}
 use Rattle.std.specs.List.{fold}
-use Rattle.std.proofs.Math.Nat.{mod-add-mod, mod-eq_of_lt, mod-lt, pow-succ', add-mul, mul_assoc, mul_comm, add_assoc}
+use Rattle.std.proofs.Math.Nat.{mod-add-mod, mod-eq_of_lt, mod-lt, pow-succ'}
 use Rattle.std.proofs.lemmas.Nat.{mul-mod_first}
 use Rattle.packet_fields.specs.declared.packet.PacketInfo.{PacketInfo}
 use Rattle.flow_work.specs.declared.count.Counted.{Counted}
 use Rattle.flow_work.specs.declared.tcp_flags.SeenFlags.{SeenFlags}
-use Rattle.flow_work.specs.Count.{no_packets, counted}
+use Rattle.flow_work.specs.Count.{counted}
 use Rattle.flow_work.specs.TcpFlags.{flags_after, has_bit}
 use Rattle.flow_work.specs.Gaps.{no_gap, gap_after, gaps_between, longest_gap}
 use Rattle.flow_work.specs.OrderFold.{folded, number_of}

@@ -1,10 +1,9 @@
--- The work that collects TCP's control bits (RFC 9293, section 3.1).
+-- The work that collects TCP's control bits: FIN is 1, SYN is 2 and RST is 4 (RFC 9293, section 3.1).
 use Rattle.std.specs.Prelude.{◌==◌, ◌≤◌, ℕ, ◌+◌, Bool, not, if◌then◌else◌, List, ◌++◌, map, fold, count_by, codes, bit_and, bit_or}
 use Rattle.std.specs.Fmt.{decimal}
 use Rattle.rss_base.specs.Hex.{hex_text}
 use Rattle.packet_fields.specs.declared.packet.PacketInfo.{PacketInfo}
 use Rattle.flow_work.specs.declared.tcp_flags.SeenFlags.{SeenFlags}
-use Rattle.flow_work.specs.declared.tcp_flags.TheConstants.{SYN, FIN, RST}
 
 -- a control bit stands in the flags
 abbrev pub has_bit : ℕ → ℕ → Bool
@@ -20,7 +19,7 @@ no_flags = record { flags = 0; syn = 0; fin = 0; rst = 0 }
 -- the packet's bits join the others, and each of the three is counted where the packet has it
 abbrev pub flags_after : SeenFlags → PacketInfo → SeenFlags
 flags_after s p =
-    record { flags = bit_or s.flags p.flags; syn = s.syn + bit_count SYN p.flags; fin = s.fin + bit_count FIN p.flags; rst = s.rst + bit_count RST p.flags }
+    record { flags = bit_or s.flags p.flags; syn = s.syn + bit_count 2 p.flags; fin = s.fin + bit_count 1 p.flags; rst = s.rst + bit_count 4 p.flags }
 
 abbrev pub flags_text : SeenFlags → List ℕ
 flags_text s =

@@ -9,6 +9,7 @@
 mod count;
 mod gaps;
 mod laws;
+mod limit_laws;
 mod order_fold;
 mod tcp_flags;
 #[cfg(test)]
@@ -19,6 +20,7 @@ mod work_name;
 pub use count::{Count, Counted};
 pub use gaps::{Gaps, SeenGaps};
 pub use laws::{count_law, flags_law, gap_law, order_law};
+pub use limit_laws::limits_are_stated;
 pub use order_fold::{FACTOR, OrderFold};
 pub use tcp_flags::{FIN, RST, SYN, SeenFlags, TcpFlags};
 pub use work::{FlowWork, MOST_PACKETS};

@@ -4,7 +4,7 @@ use Rattle.std.proofs.lemmas.List.{append-nil}
 use Rattle.std.specs.Fmt.{decimal}
 use Rattle.rss_base.specs.Piece.{GrowsByFront}
 use Rattle.packet_fields.specs.declared.key.FlowKey.{FlowKey}
-use Rattle.packet_fields.specs.KeyText.{address_text, end_text, ends_text, addresses_text}
+use Rattle.packet_fields.specs.KeyText.{address_text, end_text, ends_text, addresses_text, ipv6_address_text, ipv6_ends_text, ipv6_addresses_text}
 
 -- the four numbers of an address
 pub record AreOctets (a s0 s1 s2 s3 : ℕ) : Type 0 where
@@ -38,6 +38,18 @@ addresses_flat k s0 s1 s2 s3 d0 d1 d2 d3 p a b c =
     ap (λ w. codes "ip " ++ w)
     (address_flat k.source s0 s1 s2 s3 _ a
     ∙ ap (λ w. address_text k.source ++ (codes " > " ++ w)) (address_flat k.destination d0 d1 d2 d3 _ b ∙ rw (c, append-nil) refl))
+
+-- both ends over IPv6, in pieces
+pub ipv6_ends_flat : (name : List ℕ) (k : FlowKey) (s d : List ℕ) (p q : ℕ) → s ≡ ipv6_address_text k.source → p ≡ k.source_port → d ≡ ipv6_address_text k.destination → q ≡ k.destination_port →
+    name ++ (codes "[" ++ (s ++ (codes "]:" ++ (decimal p ++ (codes " > [" ++ (d ++ (codes "]:" ++ (decimal q ++ [])))))))) ≡ ipv6_ends_text name k
+unfolding ipv6_ends_text
+ipv6_ends_flat name k s d p q a b e f = rw (a, b, e, f, append-nil) (simp append_assoc)
+
+-- both addresses over IPv6, in pieces
+pub ipv6_addresses_flat : (k : FlowKey) (s d : List ℕ) (p : ℕ) → s ≡ ipv6_address_text k.source → d ≡ ipv6_address_text k.destination → p ≡ k.protocol →
+    codes "ip6 " ++ (s ++ (codes " > " ++ (d ++ (codes " proto " ++ (decimal p ++ []))))) ≡ ipv6_addresses_text k
+unfolding ipv6_addresses_text
+ipv6_addresses_flat k s d p a b e = rw (a, b, e, append-nil) refl
 
 -- a call that appends the one list appends the other
 pub adds : {T E : Type 0} (r : Result T E) (old new x y : List ℕ) → x ≡ y → OnOk r (new ≡ old ++ x) → OnOk r (new ≡ old ++ y)

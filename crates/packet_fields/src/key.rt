@@ -9,6 +9,12 @@ pub enum Class {
     Udp,
     /// Any other IPv4 packet, fragments among them.
     Ip,
+    /// A whole TCP header over IPv6.
+    Tcp6,
+    /// A whole UDP header over IPv6.
+    Udp6,
+    /// Any other IPv6 packet, those with extension headers among them.
+    Ip6,
     /// Any other frame.
     Other,
 }
@@ -18,17 +24,17 @@ pub enum Class {
 #[derive(Clone, Copy, Debug, PartialEq, Eq, PartialOrd, Ord, Hash)]
 pub struct FlowKey {
     pub class: Class,
-    /// The source address, of IPv4 as its 32-bit number.
+    /// The source address, of IPv4 as its 32-bit number, of IPv6 as its 128-bit number.
     pub source: u128,
-    /// The destination address, of IPv4 as its 32-bit number.
+    /// The destination address, likewise.
     pub destination: u128,
     pub source_port: u16,
     pub destination_port: u16,
-    /// The protocol number of the IPv4 header.
+    /// The protocol number of the IPv4 header, or the next header of that of IPv6.
     pub protocol: u8,
 }
 
-/// The key of what carries no IPv4 packet.
+/// The key of what carries no packet of IPv4 or IPv6.
 pub const OTHER: FlowKey = FlowKey {
     class: Class::Other,
     source: 0,

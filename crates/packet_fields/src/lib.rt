@@ -7,6 +7,8 @@
 
 mod frame;
 mod ipv4;
+mod ipv6;
+mod ipv6_text;
 mod key;
 mod laws;
 mod packet;

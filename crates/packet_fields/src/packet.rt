@@ -9,6 +9,7 @@ pub struct PacketInfo {
     pub nanos: u64,
     /// Its length on the wire, in bytes.
     pub original: u32,
-    /// The control bits of its TCP header (RFC 9293, section 3.1), 0 for the other classes.
+    /// The control bits of its TCP header (RFC 9293, section 3.1), over IPv4 or IPv6, and 0 for the
+    /// other classes.
     pub flags: u8,
 }

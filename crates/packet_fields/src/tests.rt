@@ -1,3 +1,5 @@
+mod ipv6;
+
 use crate::{Class, PacketInfo, fields};
 use rss_base::Link;
 use std::alloc::Global;

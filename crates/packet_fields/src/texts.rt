@@ -2,12 +2,14 @@ ghost use Rattle.std.specs.Prelude.{◌≡◌, ◌++◌, ◌/◌, ◌%◌, codes
 ghost use Rattle.packet_fields.specs.KeyText.{key_text_of, ends_text, addresses_text};
 ghost use Rattle.rss_base.specs.Piece.{GrowsByFront};
 
+use crate::ipv6_text::{ipv6_addresses_text, ipv6_ends_text};
 use crate::{Class, FlowKey};
 use rss_base::{NoMemory, Piece, Text};
 
 /// Appends the text of a key, without a line end: `tcp 10.0.0.1:1024 > 10.0.0.2:80`, likewise
-/// `udp`, `ip 10.0.0.1 > 10.0.0.2 proto 1`, or `other`. After [`NoMemory`] a front of it was
-/// appended.
+/// `udp`, `ip 10.0.0.1 > 10.0.0.2 proto 1`, or `other`; over IPv6 `tcp6 [A]:1024 > [B]:80`, likewise
+/// `udp6`, and `ip6 A > B proto 58`, where an address has eight groups of four hexadecimal digits,
+/// as `fe80:0000:0000:0000:0000:0000:0000:0001`. After [`NoMemory`] a front of it was appended.
 pub fn key_text(key: &FlowKey, text: &mut Text) -> Result<(), NoMemory>
     ensures ok { OnOk result (text.new ≡ text.old ++ key_text_of key.now) }
     ensures err { OnErr result (GrowsByFront text.old text.new (key_text_of key.now)) }
@@ -16,6 +18,9 @@ pub fn key_text(key: &FlowKey, text: &mut Text) -> Result<(), NoMemory>
         Class::Tcp => ends_text(b"tcp ", key, text),
         Class::Udp => ends_text(b"udp ", key, text),
         Class::Ip => addresses_text(key, text),
+        Class::Tcp6 => ipv6_ends_text(b"tcp6 ", key, text),
+        Class::Udp6 => ipv6_ends_text(b"udp6 ", key, text),
+        Class::Ip6 => ipv6_addresses_text(key, text),
         Class::Other => other_text(text),
     }
 }

@@ -1,6 +1,6 @@
 // Numbers that the headers are made of, and the constants of their formats.
 ghost use Rattle.std.specs.Prelude.{◌≡◌, ◌≤◌, ◌+◌, length};
-ghost use Rattle.packet_fields.specs.Wire.{u16_at, u32_at};
+ghost use Rattle.packet_fields.specs.Wire.{u16_at, u32_at, u128_at};
 
 use byteorder::{BigEndian, ByteOrder};
 
@@ -12,6 +12,9 @@ pub const TYPE_AT: usize = 12;
 
 /// The type of IPv4 (RFC 894).
 pub const TYPE_IPV4: u16 = 0x0800;
+
+/// The type of IPv6 (RFC 2464, section 3).
+pub const TYPE_IPV6: u16 = 0x86dd;
 
 /// The type of a VLAN tag (IEEE 802.1Q).
 pub const TYPE_TAG: u16 = 0x8100;
@@ -30,6 +33,9 @@ pub const MORE_FRAGMENTS: u16 = 0x2000;
 
 /// The bits of the fragment field that hold the offset (RFC 791, section 3.1).
 pub const FRAGMENT_OFFSET: u16 = 0x1fff;
+
+/// Bytes of an IPv6 header (RFC 8200, section 3).
+pub const IPV6_HEADER: usize = 40;
 
 /// The protocol number of TCP (RFC 9293, section 3.1).
 pub const PROTOCOL_TCP: u8 = 6;
@@ -62,4 +68,13 @@ pub fn read_u32(bytes: &[u8], at: usize) -> u32
     ensures { result ≡ u32_at at bytes.now }
 {
     BigEndian::read_u32(&bytes[at..])
+}
+
+/// The number in the sixteen bytes from a place on, in network byte order.
+#[tactic(auto, unfolding(crate::specs::Wire::u128_at))]
+pub fn read_u128(bytes: &[u8], at: usize) -> u128
+    requires { at + 16 ≤ length bytes.now }
+    ensures { result ≡ u128_at at bytes.now }
+{
+    BigEndian::read_u128(&bytes[at..])
 }

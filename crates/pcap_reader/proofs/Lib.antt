@@ -2,4 +2,5 @@ pub mod Parts
 pub mod Records
 pub mod SoFar
 pub mod StreamEnds
+pub mod Taken
 pub mod Streams

@@ -5,6 +5,7 @@ use Rattle.std.proofs.lemmas.List.{drop-append-le, take-append-drop}
 use Rattle.std.proofs.lemmas.Bool.{cases_lt}
 use Rattle.byteorder.specs.Endian.{little_number, big_number}
 use Rattle.byteorder.specs.Numbers.{big_from-append, little_from-append}
+use Rattle.rss_base.specs.declared.link.Link.{Link}
 use Rattle.pcap_reader.specs.declared.form.Order.{Order}
 use Rattle.pcap_reader.specs.declared.form.Order.TheVariants.{Little, Big}
 use Rattle.pcap_reader.specs.declared.form.Form.{Form}
@@ -32,15 +33,15 @@ front_of a b x y h e = (
   sym (drop-append_seam a x) ∙ (ap (λ n. drop n (a ++ x)) h ∙ (ap (drop (length b)) e ∙ drop-append_seam b y)),
 )
 
-abbrev made : ℕ → ℕ → List ℕ → Captured
-made n o bs = record { nanos = n; original = o; bytes = bs }
+abbrev made : Link → ℕ → ℕ → List ℕ → Captured
+made l n o bs = record { link = l; nanos = n; original = o; bytes = bs }
 
-same_parts : (a b c d : ℕ) (x y : List ℕ) → a ≡ b → c ≡ d → x ≡ y → made a c x ≡ made b d y
-same_parts a b c d x y p q r = ap (λ n. made n c x) p ∙ (ap (λ n. made b n x) q ∙ ap (made b d) r)
+same_parts : (k l : Link) (a b c d : ℕ) (x y : List ℕ) → k ≡ l → a ≡ b → c ≡ d → x ≡ y → made k a c x ≡ made l b d y
+same_parts k l a b c d x y h p q r = ap (λ m. made m a c x) h ∙ (ap (λ n. made l n c x) p ∙ (ap (λ n. made l b n x) q ∙ ap (made l b d) r))
 
 -- two records of one header and the same bytes are one
 same_record : (form : Form) (r s : Captured) (header : List ℕ) → IsHeaderOf form r header → IsHeaderOf form s header → r.bytes ≡ s.bytes → r ≡ s
-same_record form r s header p q e = same_parts r.nanos s.nanos r.original s.original r.bytes s.bytes (p.nanos ∙ sym q.nanos) (p.original ∙ sym q.original) e
+same_record form r s header p q e = same_parts r.link s.link r.nanos s.nanos r.original s.original r.bytes s.bytes (p.link ∙ sym q.link) (p.nanos ∙ sym q.nanos) (p.original ∙ sym q.original) e
 
 -- the first record and what is behind it are determined
 pub one_record : (form : Form) (r s : Captured) (h k x y : List ℕ) → IsHeaderOf form r h → IsHeaderOf form s k → h ++ (r.bytes ++ x) ≡ k ++ (s.bytes ++ y) → (r ≡ s) × (x ≡ y)
@@ -115,7 +116,7 @@ one_body form n bytes (r ∷ rs) (r' ∷ ss) x y e f a s b t =
 -- the record that these bytes begin with
 abbrev first_record : Form → List ℕ → Captured
 first_record form bytes =
-    made (number_at form.order 4 0 (take 16 bytes) * 1000000000 + number_at form.order 4 4 (take 16 bytes) * unit form.fraction)
+    made form.link (number_at form.order 4 0 (take 16 bytes) * 1000000000 + number_at form.order 4 4 (take 16 bytes) * unit form.fraction)
     (number_at form.order 4 12 (take 16 bytes)) (take (captured_length form bytes) (drop 16 bytes))
 
 -- its header is the first 16 bytes
@@ -125,7 +126,7 @@ first_header form bytes small fits =
     let got : length (take (captured_length form bytes) (drop 16 bytes)) ≡ captured_length form bytes = simp (length-take, length-drop) (omega arith) in
     let told : number_at form.order 4 8 (take 16 bytes) ≡ captured_length form bytes =
     sym (number_at-append form.order 4 8 (take 16 bytes) (drop 16 bytes) (omega arith)) ∙ ap (number_at form.order 4 8) (take-append-drop 16 bytes) in
-    record { whole = long; nanos = refl; captured = got ∙ sym told; limit = omega arith; original = refl }
+    record { whole = long; link = refl; nanos = refl; captured = got ∙ sym told; limit = omega arith; original = refl }
 
 -- each body has records and an end
 pub each_body : (form : Form) (n k : ℕ) (bytes : List ℕ) → length bytes ≤ k → (rs : List Captured) × (x : List ℕ) × (e : Ending) × Begins form bytes rs x × TailEnds form (n + length rs) x e

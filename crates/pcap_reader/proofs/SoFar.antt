@@ -1,5 +1,5 @@
 -- A reading of a capture, call by call.
-use Rattle.std.proofs.Common.{◌≡◌, inr, ℕ, ◌≤◌, List, [], ◌∷◌, ◌++◌, length, drop, refl, sym, subst, ◌∙◌, arith, length-append, Option, None, Some, IfSome}
+use Rattle.std.proofs.Common.{◌≡◌, inr, ℕ, List, [], ◌∷◌, ◌++◌, length, drop, refl, sym, subst, ◌∙◌, arith, length-append, Option, None, Some, IfSome}
 use Rattle.std.specs.Io.KnownBytes.{IsAtEnd, prepend_known}
 use Rattle.pcap_reader.specs.declared.form.Form.{Form}
 use Rattle.pcap_reader.specs.declared.fault.Break.{Break}

@@ -8,8 +8,8 @@ use Rattle.pcap_reader.specs.declared.form.Form.{Form}
 use Rattle.pcap_reader.specs.declared.fault.Break.TheVariants.{TooLong, ShortRecord}
 use Rattle.pcap_reader.specs.declared.fault.Break.{Break}
 use Rattle.pcap_reader.specs.declared.head.Head.{Head}
-use Rattle.pcap_reader.specs.Capture.{number_at, unit, IsHeaderOf, captured_length, TailBreaks, HeaderBreaks, announced}
-use Rattle.pcap_reader.specs.Stream.{TakesRecord, TakesHeader, record_at}
+use Rattle.pcap_reader.specs.Capture.{number_at, unit, IsHeaderOf, IsCut, captured_length, TailBreaks, HeaderBreaks, announced}
+use Rattle.pcap_reader.specs.Stream.{TakesRecord, TakesHeader, record_at, MOST_AHEAD}
 use Rattle.pcap_reader.proofs.Records.{number_at-append}
 
 -- what was read ahead is a front of what is to come
@@ -38,12 +38,13 @@ pub record IsRead (form : Form) (head : Head) (bytes : List ℕ) : Type 0 where
   pub captured : head.captured ≡ number_at form.order 4 8 bytes
   pub original : head.original ≡ number_at form.order 4 12 bytes
 
-header_of : (form : Form) (head : Head) (w1 w2 : List ℕ) → IsRead form head w1 → head.captured ≤ 262144 → head.captured ≤ length w2 → IsHeaderOf form (record_at head w2) (take 16 w1)
+header_of : (form : Form) (head : Head) (w1 w2 : List ℕ) → IsRead form head w1 → head.captured ≤ 262144 → head.captured ≤ length w2 → IsHeaderOf form (record_at form head w2) (take 16 w1)
 header_of form head w1 w2 r small fits =
     let long = r.long in
     let got : length (take head.captured w2) ≡ head.captured = simp length-take (omega arith) in
     record {
       whole = simp length-take (omega arith);
+      link = refl;
       nanos = r.nanos ∙ (ap (λ n. n * 1000000000 + number_at form.order 4 4 w1 * unit form.fraction) (in_header form 4 0 w1 long (omega arith))
           ∙ ap (λ n. number_at form.order 4 0 (take 16 w1) * 1000000000 + n * unit form.fraction) (in_header form 4 4 w1 long (omega arith)));
       captured = got ∙ (r.captured ∙ in_header form 4 8 w1 long (omega arith));
@@ -52,7 +53,7 @@ header_of form head w1 w2 r small fits =
     }
 
 -- the record is whole
-pub takes_record : (form : Form) (head : Head) (a0 a2 : Option (List ℕ)) (w0 w1 w2 : List ℕ) → Consumes (prepend_known w0 a0) (prepend_known w2 a2) (take 16 w1) → IsRead form head w1 → head.captured ≤ 262144 → head.captured ≤ length w2 → TakesRecord form (prepend_known w0 a0) (prepend_known (drop head.captured w2) a2) (record_at head w2)
+pub takes_record : (form : Form) (head : Head) (a0 a2 : Option (List ℕ)) (w0 w1 w2 : List ℕ) → Consumes (prepend_known w0 a0) (prepend_known w2 a2) (take 16 w1) → IsRead form head w1 → head.captured ≤ 262144 → head.captured ≤ length w2 → TakesRecord form (prepend_known w0 a0) (prepend_known (drop head.captured w2) a2) (record_at form head w2)
 takes_record form head None a2 w0 w1 w2 k r small fits = tt
 takes_record form head (Some x0) None w0 w1 w2 k r small fits = absurd k
 takes_record form head (Some x0) (Some x2) w0 w1 w2 k r small fits = (
@@ -81,6 +82,22 @@ cut_short form n have head (Some x0) (Some x2) w0 w1 w2 k end r small cut e =
     number_at-append form.order 4 8 (take 16 w1) w2 (omega arith) ∙ (sym (in_header form 4 8 w1 r.long (omega arith)) ∙ sym r.captured) in
     subst (λ (w : List ℕ). TailBreaks form n w (ShortRecord n have)) (sym all)
     (refl, e ∙ sym long, inr (omega arith, omega arith, omega arith))
+
+-- what was read ahead is read too
+consumed_on : (a0 a2 : Option (List ℕ)) (w0 w2 h : List ℕ) → Consumes (prepend_known w0 a0) (prepend_known w2 a2) h → Consumes (prepend_known w0 a0) a2 (h ++ w2)
+consumed_on None a2 w0 w2 h k = tt
+consumed_on (Some x0) None w0 w2 h k = absurd k
+consumed_on (Some x0) (Some x2) w0 w2 h k = k ∙ sym (append_assoc h w2 x2)
+
+-- a record's header was read, and less than its captured bytes
+pub stops_inside : (form : Form) (head : Head) (a0 a2 : Option (List ℕ)) (w0 w1 w2 : List ℕ) → Consumes (prepend_known w0 a0) (prepend_known w2 a2) (take 16 w1) → IsRead form head w1 → head.captured ≤ 262144 → length w2 < head.captured
+    → (unused : List ℕ) × Consumes (prepend_known w0 a0) a2 unused × (length unused ≤ MOST_AHEAD) × IsCut form unused
+stops_inside form head a0 a2 w0 w1 w2 k r small cut =
+    let front : length (take 16 w1) ≡ 16 = simp length-take (omega (arith, r.long)) in
+    let long : length (take 16 w1 ++ w2) ≡ 16 + length w2 = simp length-append (omega arith) in
+    let told : captured_length form (take 16 w1 ++ w2) ≡ head.captured =
+    number_at-append form.order 4 8 (take 16 w1) w2 (omega arith) ∙ (sym (in_header form 4 8 w1 r.long (omega arith)) ∙ sym r.captured) in
+    (take 16 w1 ++ w2, consumed_on a0 a2 w0 w2 (take 16 w1) k, omega arith, inr (omega arith, omega arith, omega arith))
 
 -- a call that didn't fail is Ok
 pub on_not_err : {T E P : Type 0} (r : Result T E) → is_err r ≡ false → OnOk r P → P

@@ -3,3 +3,4 @@ pub mod Next
 pub mod Reading
 pub mod Stream
 pub mod StreamEnd
+pub mod Taken

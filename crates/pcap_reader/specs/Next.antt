@@ -11,7 +11,7 @@ use Rattle.pcap_reader.specs.Reading.{Reading, Proceeds}
 -- a record as the definitions have it
 abbrev pub captured_of : Option Record → Option Captured
 captured_of None = None
-captured_of (Some r) = Some (record { nanos = r.nanos; original = r.original; bytes = r.bytes.now })
+captured_of (Some r) = Some (record { link = r.link; nanos = r.nanos; original = r.original; bytes = r.bytes.now })
 
 -- an answer as the definitions have it
 abbrev pub seen : Result (Option Record) ReadError → Result (Option Captured) ReadError

@@ -1,12 +1,12 @@
 -- A reader as contracts see it, and what its calls do.
-use Rattle.std.specs.Prelude.{◌≡◌, ℕ, ◌+◌, List, Option, None, Some, Result, Ok, Err}
+use Rattle.std.specs.Prelude.{◌≡◌, ℕ, ◌+◌, ◌≤◌, List, length, Option, None, Some, Result, Ok, Err}
 use Rattle.std.specs.Io.KnownBytes.{prepend_known}
 use Rattle.pcap_reader.specs.declared.form.Form.{Form}
 use Rattle.pcap_reader.specs.declared.reader.Progress.{Progress}
 use Rattle.pcap_reader.specs.declared.reader.Progress.TheVariants.{Going, Ended, Stopped}
 use Rattle.pcap_reader.specs.declared.fault.ReadError.{ReadError}
 use Rattle.pcap_reader.specs.Capture.{Captured}
-use Rattle.pcap_reader.specs.Stream.{Comes}
+use Rattle.pcap_reader.specs.Stream.{Comes, Stops, MOST_AHEAD}
 
 -- how its capture is written, how many records were given, the last of them, what was read ahead and is not yet given, and how far it has come
 pub record Reading : Type 0 where
@@ -36,18 +36,24 @@ abbrev pub count_after : ℕ → Result (Option Captured) ReadError → ℕ
 count_after n (Ok (Some r)) = n + 1
 count_after n _ = n
 
+-- how far a call has read: no further than the longest record, and where it answers an error it has skipped nothing
+abbrev pub ReadsAhead : Form → Reading → Option (List ℕ) → Option (List ℕ) → Result (Option Captured) ReadError → Type 0
+ReadsAhead form new before left (Ok next) = length new.ahead ≤ MOST_AHEAD
+ReadsAhead form new before left (Err e) = Stops form e before left
+
 -- a call that still reads
 pub record Advances (old new : Reading) (before now : Option (List ℕ)) (result : Result (Option Captured) ReadError) : Type 0 where
   pub comes : Comes old.form old.given (still old before) (still new now) result
   pub progress : new.progress ≡ after result
   pub given : new.given ≡ count_after old.given result
   pub form : new.form ≡ old.form
+  pub ahead : ReadsAhead old.form new (still old before) now result
 
--- a call of a reader that has come so far: it goes on, or answers as before
+-- a call of a reader that has come so far: it goes on, or answers as before and changes nothing
 abbrev pub ProceedsFrom : Progress → Reading → Reading → Option (List ℕ) → Option (List ℕ) → Result (Option Captured) ReadError → Type 0
 ProceedsFrom Going old new before now result = Advances old new before now result
-ProceedsFrom Ended old new before now result = (result ≡ Ok None) × (new.progress ≡ Ended)
-ProceedsFrom (Stopped e) old new before now result = (result ≡ Err e) × (new.progress ≡ Stopped e)
+ProceedsFrom Ended old new before now result = (result ≡ Ok None) × (new ≡ old)
+ProceedsFrom (Stopped e) old new before now result = (result ≡ Err e) × (new ≡ old)
 
 abbrev pub Proceeds : Reading → Reading → Option (List ℕ) → Option (List ℕ) → Result (Option Captured) ReadError → Type 0
 Proceeds old new before now result = ProceedsFrom old.progress old new before now result

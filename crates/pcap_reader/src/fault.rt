@@ -7,7 +7,7 @@ pub enum Break {
     BadMagic { value: u32 },
     /// The version isn't 2.4.
     BadVersion { major: u16, minor: u16 },
-    /// The link type isn't Ethernet.
+    /// The link type is neither Ethernet nor raw IP.
     BadLink { value: u32 },
     /// The record with this number, from 0, tells a captured length above the limit.
     TooLong { at: u32, length: u32 },

@@ -1,3 +1,5 @@
+use rss_base::Link;
+
 /// In which order the bytes of a number stand.
 #[derive(Clone, Copy, Debug, PartialEq, Eq)]
 pub enum Order {
@@ -12,9 +14,10 @@ pub enum Fraction {
     Nanos,
 }
 
-/// How the numbers of a capture are written.
+/// How the numbers of a capture are written, and what its frames begin with.
 #[derive(Clone, Copy, Debug, PartialEq, Eq)]
 pub struct Form {
     pub order: Order,
     pub fraction: Fraction,
+    pub link: Link,
 }

@@ -30,6 +30,9 @@ pub const MINOR: u16 = 4;
 /// The link type of Ethernet (LINKTYPE_ETHERNET).
 pub const LINK_ETHERNET: u32 = 1;
 
+/// The link type of raw IP: a frame is a packet of IPv4 or IPv6 (LINKTYPE_RAW).
+pub const LINK_RAW: u32 = 101;
+
 /// Nanoseconds in a second.
 pub const NANOS_PER_SECOND: u64 = 1_000_000_000;
 

@@ -1,12 +1,12 @@
 // The header of the record that comes next.
-ghost use Rattle.std.specs.Prelude.{◌≡◌, ◌≤◌, ◌+◌, ◌*◌, length, IfOk, IfSome};
+ghost use Rattle.std.specs.Prelude.{◌≡◌, ◌≤◌, ◌+◌, ◌*◌, length, IfOk, IfErr, IfSome, OnOk};
 ghost use Rattle.std.specs.Io.KnownBytes.{prepend_known};
 ghost use Rattle.pcap_reader.specs.Capture.{number_at, unit};
-ghost use Rattle.pcap_reader.specs.Stream.{Comes, HasReadCause, read_record, behind_record};
+ghost use Rattle.pcap_reader.specs.Stream.{Comes, Stops, HasReadCause, read_record, behind_record};
 
 use crate::format::{LONGEST, NANOS_PER_MICRO, NANOS_PER_SECOND, RECORD_HEADER};
 use crate::numbers::u32_at;
-use crate::window::{Window, fill};
+use crate::window::{ROOM, Window, fill};
 use crate::{Break, Form, Fraction, ReadError};
 use rss_base::Source;
 
@@ -53,7 +53,9 @@ pub fn next_head<S: Source>(
     at: u32,
 ) -> Result<Option<Head>, ReadError>
     ensures comes { Comes form at (prepend_known window.old (S.left source.old))
-        (prepend_known (behind_record result window.new) (S.left source.new)) (read_record result window.new) }
+        (prepend_known (behind_record result window.new) (S.left source.new)) (read_record form result window.new) }
+    ensures stops { IfErr result (λ error. Stops form error (prepend_known window.old (S.left source.old)) (S.left source.new)) }
+    ensures room { OnOk result (length window.new ≤ ROOM) }
     ensures fits { IfOk result (λ next. IfSome next (λ head. head.captured ≤ length window.new)) }
     ensures cause { HasReadCause (S.faults source.old) (S.faults source.new) result }
     ensures origin { S.origin source.new ≡ S.origin source.old }

@@ -1,26 +1,37 @@
 // The header of a capture.
 ghost use Rattle.std.specs.Prelude.{◌≡◌, length};
-ghost use Rattle.pcap_reader.specs.Capture.{announced, form_of};
+ghost use Rattle.pcap_reader.specs.Capture.{announced, numbers_of, link_of};
 
 use crate::format::{
-    CAPTURE_HEADER, LINK_ETHERNET, MAGIC_MICROS, MAGIC_MICROS_TURNED, MAGIC_NANOS,
+    CAPTURE_HEADER, LINK_ETHERNET, LINK_RAW, MAGIC_MICROS, MAGIC_MICROS_TURNED, MAGIC_NANOS,
     MAGIC_NANOS_TURNED, MAJOR, MINOR,
 };
 use crate::numbers::{u16_at, u32_at};
 use crate::{Break, Form, Fraction, Order};
+use rss_base::Link;
 
-// The form that a magic number stands for.
-fn form_by(magic: u32) -> Option<Form>
-    ensures { result ≡ form_of magic }
+// How numbers are written behind a magic number.
+fn numbers_by(magic: u32) -> Option<(Order, Fraction)>
+    ensures { result ≡ numbers_of magic }
 {
-    let (order, fraction) = match magic {
-        MAGIC_MICROS => (Order::Big, Fraction::Micros),
-        MAGIC_MICROS_TURNED => (Order::Little, Fraction::Micros),
-        MAGIC_NANOS => (Order::Big, Fraction::Nanos),
-        MAGIC_NANOS_TURNED => (Order::Little, Fraction::Nanos),
-        _ => return None,
-    };
-    Some(Form { order, fraction })
+    match magic {
+        MAGIC_MICROS => Some((Order::Big, Fraction::Micros)),
+        MAGIC_MICROS_TURNED => Some((Order::Little, Fraction::Micros)),
+        MAGIC_NANOS => Some((Order::Big, Fraction::Nanos)),
+        MAGIC_NANOS_TURNED => Some((Order::Little, Fraction::Nanos)),
+        _ => None,
+    }
+}
+
+// What frames of a link type begin with, where it is one that is read.
+fn link_by(value: u32) -> Option<Link>
+    ensures { result ≡ link_of value }
+{
+    match value {
+        LINK_ETHERNET => Some(Link::Ethernet),
+        LINK_RAW => Some(Link::Raw),
+        _ => None,
+    }
 }
 
 /// The form that a whole header announces, or what is wrong with it first.
@@ -30,18 +41,22 @@ pub fn announced_by(header: &[u8]) -> Result<Form, Break>
     ensures { result ≡ announced header.now }
 {
     let magic = u32_at(Order::Big, header, 0);
-    let form = match form_by(magic) {
-        Some(form) => form,
+    let (order, fraction) = match numbers_by(magic) {
+        Some(numbers) => numbers,
         None => return Err(Break::BadMagic { value: magic }),
     };
-    let major = u16_at(form.order, header, 4);
-    let minor = u16_at(form.order, header, 6);
+    let major = u16_at(order, header, 4);
+    let minor = u16_at(order, header, 6);
     if major != MAJOR || minor != MINOR {
         return Err(Break::BadVersion { major, minor });
     }
-    let link = u32_at(form.order, header, 20);
-    if link != LINK_ETHERNET {
-        return Err(Break::BadLink { value: link });
+    let value = u32_at(order, header, 20);
+    match link_by(value) {
+        Some(link) => Ok(Form {
+            order,
+            fraction,
+            link,
+        }),
+        None => Err(Break::BadLink { value }),
     }
-    Ok(form)
 }

@@ -2,9 +2,10 @@
 //!
 //! The format is a relation on whole lists of bytes (`specs/Capture.antt`), and each list has
 //! exactly one list of whole records and one end or first break behind them ([`one_reading`]).
-//! A [`Reader`] gives these records and that end, however its source cuts the bytes. It reads its
-//! source in large pieces into one buffer, copies no captured bytes out of it, and takes no memory
-//! after its start.
+//! A [`Reader`] gives these records and that end, however its source cuts the bytes, and before a
+//! failed read the first of them ([`records_in_order`]). It reads its source in large pieces into
+//! one buffer, copies no captured bytes out of it, takes no memory after its start, and reads no
+//! further than the longest record behind what it gave.
 #![tactic(auto)]
 
 mod fault;
@@ -13,8 +14,10 @@ mod format;
 mod head;
 mod header;
 mod laws;
+mod limit_laws;
 mod numbers;
 mod reader;
+mod reading_laws;
 mod record;
 #[cfg(test)]
 mod tests;
@@ -24,5 +27,7 @@ pub use fault::{Break, ReadError};
 pub use form::{Form, Fraction, Order};
 pub use format::{CAPTURE_HEADER, LONGEST, RECORD_HEADER};
 pub use laws::{one_reading, one_stream_end};
+pub use limit_laws::limits_are_stated;
 pub use reader::{MOST_RECORDS, Progress, Reader};
+pub use reading_laws::records_in_order;
 pub use record::Record;

@@ -1,5 +1,5 @@
-ghost use Rattle.std.specs.Prelude.{◌≡◌, ◌≢◌, ◌≤◌, ◌+◌, IfOk, IfErr, IfSome, IsErrOf};
-ghost use Rattle.pcap_reader.specs.Stream.{HasReadCause, TakesHeader, HeaderRefused};
+ghost use Rattle.std.specs.Prelude.{◌≡◌, ◌≢◌, ◌≤◌, ◌+◌, length, IfOk, IfErr, IfSome, IsErrOf};
+ghost use Rattle.pcap_reader.specs.Stream.{HasReadCause, TakesHeader, HeaderRefused, StopsAtHeader, MOST_AHEAD};
 
 use crate::format::CAPTURE_HEADER;
 use crate::head::next_head;
@@ -49,7 +49,7 @@ impl Model for Reader {
     ghost view = { λ r. record {
       form = r.form;
       given = r.given;
-      shown = if r.has_record then Some (record { nanos = r.nanos; original = r.original; bytes = take r.held r.window }) else None;
+      shown = if r.has_record then Some (record { link = r.form.link; nanos = r.nanos; original = r.original; bytes = take r.held r.window }) else None;
       ahead = drop r.held r.window;
       progress = r.progress;
     } };
@@ -67,7 +67,9 @@ impl Reader {
     pub fn start<S: Source>(alloc: Global, source: &mut S) -> Result<Reader, ReadError>
         ensures header { IfOk result (λ reader. TakesHeader (S.left source.old) (still reader (S.left source.new)) reader.form) }
         ensures first { IfOk result (λ reader. (reader.given ≡ 0) × (reader.progress ≡ Progress.Going)) }
+        ensures ahead { IfOk result (λ reader. length reader.ahead ≤ MOST_AHEAD) }
         ensures refused { IfErr result (λ error. HeaderRefused (S.left source.old) error) }
+        ensures stops { IfErr result (λ error. StopsAtHeader error (S.left source.old) (S.left source.new)) }
         ensures no_memory { IsErrOf result ReadError.NoMemory → source.new ≡ source.old }
         ensures cause { HasReadCause (S.faults source.old) (S.faults source.new) result }
         ensures origin { S.origin source.new ≡ S.origin source.old }
@@ -147,6 +149,7 @@ impl Reader {
         }
         Some(Record {
             number: (self.given - 1) as u32,
+            link: self.form.link,
             nanos: self.nanos,
             original: self.original,
             bytes: &self.window.bytes()[..self.held],
@@ -172,9 +175,9 @@ impl Reader {
 
     /// What the frames of the records begin with.
     pub fn link(&self) -> Link
-        ensures { result ≡ Link.Ethernet }
+        ensures { result ≡ self.now.form.link }
     {
-        Link::Ethernet
+        self.form.link
     }
 
     /// How many records were given.

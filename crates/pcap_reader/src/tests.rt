@@ -1,5 +1,5 @@
 use crate::{Break, ReadError, Reader};
-use rss_base::MemorySource;
+use rss_base::{Link, MemorySource};
 use std::alloc::Global;
 use std::test::Fail;
 
@@ -55,6 +55,26 @@ fn a_record_tells_its_time_and_lengths(rt: HostRuntime) -> Result<(), Fail> {
             assert_eq!(rt; record.bytes.len(), 240);
         }
         None => assert!(rt; false, "there is a record"),
+    }
+    Ok(())
+}
+
+// The reader and its records tell the link of the header.
+#[test]
+fn a_capture_tells_its_link(rt: HostRuntime) -> Result<(), Fail> {
+    for (value, link) in [(1, Link::Ethernet), (101, Link::Raw)] {
+        let mut capture = HEADER.to_vec(rt.alloc())?;
+        push_record(&mut capture)?;
+        if let Some(byte) = capture.get_mut(20) {
+            *byte = value;
+        }
+        let mut source = MemorySource::new(capture, Vec::new(rt.alloc()), Vec::new(rt.alloc()));
+        let mut reader = Reader::start(rt.alloc(), &mut source)?;
+        assert_eq!(rt; reader.link(), link);
+        match reader.next(&mut source)? {
+            Some(record) => assert_eq!(rt; record.link, link),
+            None => assert!(rt; false, "there is a record"),
+        }
     }
     Ok(())
 }

@@ -71,7 +71,8 @@ impl Window {
 
     /// What was read ahead.
     pub fn bytes(&self) -> &[u8]
-        ensures { result.now ≡ self.now }
+        ensures value { result.now ≡ self.now }
+        ensures room { length self.now ≤ ROOM }
     {
         &self.buffer[self.start..self.end]
     }
@@ -112,6 +113,8 @@ pub fn fill<S: Source>(window: &mut Window, source: &mut S, want: usize) -> Resu
     ensures still { Keeps (prepend_known window.old (S.left source.old)) (prepend_known window.new (S.left source.new)) }
     ensures end { OnOk result (length window.new < want → IsAtEnd (S.left source.new)) }
     ensures no_less { length window.old ≤ length window.new }
+    ensures room { length window.new ≤ ROOM }
+    ensures short { OnErr result (length window.new < want) }
     ensures cause { HasCause (S.faults source.old) (S.faults source.new) result }
     ensures origin { S.origin source.new ≡ S.origin source.old }
 {

@@ -23,7 +23,7 @@ pub use gate::{Gate, OpenGate};
 pub use link::Link;
 pub use memory_sink::MemorySink;
 pub use memory_source::MemorySource;
-pub use piece::{Piece, write_pieces};
+pub use piece::{Piece, hex4, write_pieces};
 pub use refusal::{Failed, NoMemory};
 pub use sink::{Sink, write_whole};
 pub use source::Source;

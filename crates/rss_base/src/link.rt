@@ -3,4 +3,6 @@
 pub enum Link {
     /// An Ethernet header (LINKTYPE_ETHERNET, 1).
     Ethernet,
+    /// The header of an IPv4 or IPv6 packet, whose first four bits tell which (LINKTYPE_RAW, 101).
+    Raw,
 }

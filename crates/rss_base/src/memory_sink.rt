@@ -1,7 +1,7 @@
-ghost use Rattle.std.specs.Prelude.{◌≡◌, ◌≤◌, ◌<◌, ◌⊎◌, ◌++◌, ◌↔◌, [], length, take, IfOk, OnErr, IsErr, Contains};
+ghost use Rattle.std.specs.Prelude.{◌≡◌, ◌≤◌, ◌<◌, ◌⊎◌, ◌↔◌, [], length, take, IfOk, OnOk, OnErr, IsErr, Contains};
 ghost use Rattle.rss_base.specs.Faults.{HasCause};
 ghost use Rattle.rss_base.specs.Written.{Gets};
-ghost use Rattle.rss_base.specs.Memory.{next_call};
+ghost use Rattle.rss_base.specs.Memory.{next_call, took, failed_to_take};
 
 use crate::{Failed, NoMemory, Sink};
 use std::alloc::Global;
@@ -66,10 +66,10 @@ impl Sink for MemorySink {
         ensures bytes { IfOk result (λ n. Gets (λ bytes. bytes ≡ self.old.bytes) (λ bytes. bytes ≡ self.new.bytes) (take n piece.now)) }
         ensures err { OnErr result (Gets (λ bytes. bytes ≡ self.old.bytes) (λ bytes. bytes ≡ self.new.bytes) []) }
         ensures cause { HasCause self.old.faults self.new.faults result }
-        ensures whole { IfOk result (λ n. (n ≡ length piece.now) × (self.new.bytes ≡ self.old.bytes ++ piece.now)) }
         ensures fails { IsErr result ↔ (Contains self.old.fail_at (next_call self.old.calls) ⊎ (self.old.room < length piece.now)) }
-        ensures unchanged { OnErr result ((self.new.bytes ≡ self.old.bytes) × (self.new.room ≡ self.old.room)) }
-        ensures calls { self.new.calls ≡ next_call self.old.calls }
+        ensures whole { IfOk result (λ n. n ≡ length piece.now) }
+        ensures took { OnOk result (self.new ≡ took self.old piece.now) }
+        ensures failed { OnErr result (self.new ≡ failed_to_take self.old) }
     {
         self.calls = self.calls.saturating_add(1);
         if self.fail_at.contains(&self.calls) || piece.len() > self.room - self.bytes.len() {

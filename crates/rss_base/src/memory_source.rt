@@ -1,7 +1,7 @@
-ghost use Rattle.std.specs.Prelude.{◌≡◌, ◌≤◌, ◌<◌, ◌-◌, ◌↔◌, List, ℕ, length, drop, take, min, IfOk, IsErr, Some, Contains};
+ghost use Rattle.std.specs.Prelude.{◌≡◌, ◌≤◌, ◌<◌, ◌-◌, ◌↔◌, List, ℕ, length, drop, take, min, IfOk, OnErr, IsErr, Some, Contains};
 ghost use Rattle.std.specs.Io.KnownBytes.{ReadConsumes};
 ghost use Rattle.rss_base.specs.Faults.{HasCause};
-ghost use Rattle.rss_base.specs.Memory.{made_over, next_call, cut_at};
+ghost use Rattle.rss_base.specs.Memory.{made_over, next_call, cut_at, gave, failed_to_give};
 
 use crate::{Failed, Source};
 use std::marker::Model;
@@ -87,7 +87,8 @@ impl Source for MemorySource {
         ensures origin { made_over self.new ≡ made_over self.old }
         ensures fails { IsErr result ↔ Contains self.old.fail_at (next_call self.old.calls) }
         ensures piece { IfOk result (λ n. n ≡ min (cut_at self.old.cuts (next_call self.old.calls)) (min (length into.old) (length self.old.all - self.old.given))) }
-        ensures calls { self.new.calls ≡ next_call self.old.calls }
+        ensures gave { IfOk result (λ n. self.new ≡ gave self.old n) }
+        ensures failed { OnErr result (self.new ≡ failed_to_give self.old) }
     {
         self.calls = self.calls.saturating_add(1);
         if self.fail_at.contains(&self.calls) {

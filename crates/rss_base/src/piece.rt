@@ -41,6 +41,19 @@ pub fn hex2(value: u8) -> [u8; 2]
     [hex_digit(value / 0x10 % 16), hex_digit(value % 16)]
 }
 
+/// The four hexadecimal digits of a number.
+pub fn hex4(value: u16) -> [u8; 4]
+    ensures { result ≡ hex_text 4 value }
+{
+    let value = u32::from(value);
+    [
+        hex_digit(value / 0x1000 % 16),
+        hex_digit(value / 0x100 % 16),
+        hex_digit(value / 0x10 % 16),
+        hex_digit(value % 16),
+    ]
+}
+
 /// The eight hexadecimal digits of a number.
 pub fn hex8(value: u32) -> [u8; 8]
     ensures { result ≡ hex_text 8 value }

@@ -2,7 +2,7 @@ use crate::{
     Failed, MemorySink, MemorySource, Piece, Sink, Source, StdSink, StdSource, Text, write_pieces,
     write_whole,
 };
-use std::io::Cursor;
+use std::io::{BufWriter, Cursor};
 use std::test::Fail;
 
 #[test]
@@ -79,5 +79,18 @@ fn a_std_writer_is_a_sink(rt: HostRuntime) -> Result<(), Fail> {
     assert!(rt; write_whole(&mut sink, b"abc").is_ok());
     // A writer that takes nothing more of a piece has failed.
     assert!(rt; write_whole(&mut sink, b"de").is_err());
+    Ok(())
+}
+
+// What a buffer holds fails to be written when it is flushed, and not before.
+#[test]
+fn a_failed_flush_is_told(rt: HostRuntime) -> Result<(), Fail> {
+    let mut room = [0u8; 4];
+    let writer = BufWriter::new(rt.alloc(), Cursor::new(room.as_mut_slice()))?;
+    let mut sink = StdSink::new(writer);
+    assert!(rt; write_whole(&mut sink, b"abcd").is_ok());
+    assert!(rt; sink.flush() == Ok(()));
+    assert!(rt; write_whole(&mut sink, b"e").is_ok());
+    assert!(rt; sink.flush() == Err(Failed));
     Ok(())
 }

@@ -9,11 +9,13 @@
 mod input_hash;
 mod key;
 mod laws;
+mod limit_laws;
 mod packet_hash;
 
 pub use input_hash::{MOST_INPUT, hash};
 pub use key::{DEFAULT_KEY, KEY_BYTES, Key};
 pub use laws::one_bucket_each;
+pub use limit_laws::keys_are_stated;
 pub use packet_hash::hash_info;
 
 #[cfg(test)]

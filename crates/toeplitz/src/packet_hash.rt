@@ -1,6 +1,6 @@
 ghost use Rattle.std.specs.Prelude.{◌≡◌};
 ghost use Rattle.byteorder.specs.Endian.{big_bytes};
-ghost use Rattle.toeplitz.specs.Packet.{addresses_of, ends_of, packet_hash};
+ghost use Rattle.toeplitz.specs.Packet.{addresses_of, ends_of, ipv6_addresses_of, ipv6_ends_of, packet_hash};
 
 use crate::{Key, hash};
 use byteorder::{BigEndian, ByteOrder};
@@ -34,9 +34,30 @@ fn ends(flow: &FlowKey) -> [u8; 12]
     bytes
 }
 
+// Both addresses of IPv6 in network byte order.
+fn ipv6_addresses(flow: &FlowKey) -> [u8; 32]
+    ensures { result ≡ ipv6_addresses_of flow.now }
+{
+    let mut bytes = [0; 32];
+    BigEndian::write_u128(&mut bytes, flow.source);
+    BigEndian::write_u128(&mut bytes[16..], flow.destination);
+    bytes
+}
+
+// Both addresses of IPv6 and both ports in network byte order.
+fn ipv6_ends(flow: &FlowKey) -> [u8; 36]
+    ensures { result ≡ ipv6_ends_of flow.now }
+{
+    let mut bytes = [0; 36];
+    bytes[..32].copy_from_slice(&ipv6_addresses(flow));
+    BigEndian::write_u16(&mut bytes[32..], flow.source_port);
+    BigEndian::write_u16(&mut bytes[34..], flow.destination_port);
+    bytes
+}
+
 /// The hash of a packet (Microsoft RSS): of both addresses and both ports where its class has
 /// ports, of both addresses where it has none, and 0 for the class `Other`. Of an address the
-/// lowest 32 bits count.
+/// lowest 32 bits count over IPv4, and all 128 over IPv6.
 #[tactic(auto, unfolding(crate::specs::Packet::packet_hash))]
 pub fn hash_info(key: &Key, packet: &PacketInfo) -> u32
     ensures { result ≡ packet_hash key.now packet.now }
@@ -44,6 +65,8 @@ pub fn hash_info(key: &Key, packet: &PacketInfo) -> u32
     match packet.key.class {
         Class::Tcp | Class::Udp => hash(key, &ends(&packet.key)),
         Class::Ip => hash(key, &addresses(&packet.key)),
+        Class::Tcp6 | Class::Udp6 => hash(key, &ipv6_ends(&packet.key)),
+        Class::Ip6 => hash(key, &ipv6_addresses(&packet.key)),
         Class::Other => 0,
     }
 }

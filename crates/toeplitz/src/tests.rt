@@ -98,6 +98,35 @@ fn the_longest_input_has_its_hash(rt: HostRuntime) {
     assert_eq!(rt; hash(&DEFAULT_KEY, &LONGEST[..32]), 0x2cc1_8cd5);
 }
 
+// The packet of the longest input.
+fn packet_over_ipv6(class: Class) -> PacketInfo {
+    PacketInfo {
+        key: FlowKey {
+            class,
+            source: 0x3ffe_2501_0200_1fff_0000_0000_0000_0007,
+            destination: 0x3ffe_2501_0200_0003_0000_0000_0000_0001,
+            source_port: 2794,
+            destination_port: 1766,
+            protocol: 0,
+        },
+        nanos: 0,
+        original: 0,
+        flags: 0,
+    }
+}
+
+#[test]
+fn published_packets_over_ipv6_have_their_hashes(rt: HostRuntime) {
+    for (class, expected) in [
+        (Class::Tcp6, 0x4020_7d3d),
+        (Class::Udp6, 0x4020_7d3d),
+        (Class::Ip6, 0x2cc1_8cd5),
+        (Class::Other, 0),
+    ] {
+        assert_eq!(rt; hash_info(&DEFAULT_KEY, &packet_over_ipv6(class)), expected);
+    }
+}
+
 #[test]
 fn published_packets_with_ports_have_their_hashes(rt: HostRuntime) {
     for vector in &VECTORS {

@@ -3,6 +3,7 @@ use Rattle.std.proofs.Common.{◌≡◌, ℕ, zero, suc, ◌+◌, ◌^◌, ◌<�
 use Rattle.std.specs.List.{flat_map, range_with_len}
 use Rattle.byteorder.specs.Endian.{little_bytes}
 use Rattle.byteorder.specs.Numbers.{little_number-reads_back}
+use Rattle.rss_base.specs.declared.link.Link.TheVariants.{Ethernet}
 use Rattle.pcap_reader.specs.declared.form.Form.{Form}
 use Rattle.pcap_reader.specs.declared.form.Order.TheVariants.{Little}
 use Rattle.pcap_reader.specs.declared.form.Fraction.TheVariants.{Micros}
@@ -12,9 +13,9 @@ use Rattle.traffic_gen.specs.Traffic.{file_header, seconds_of, microseconds_of, 
 use Rattle.traffic_gen.specs.Capture.{captured_at, captured_from}
 use Rattle.traffic_gen.proofs.Giving.{frame_of-short}
 
--- little-endian, with microseconds
+-- little-endian, with microseconds, of Ethernet
 abbrev form : Form
-form = record { order = Little; fraction = Micros }
+form = record { order = Little; fraction = Micros; link = Ethernet }
 
 header_of : (number index : ℕ) → index < 2 ^ 32 → IsHeaderOf form (captured_at number index) (record_header (length (frame_of number index)) index)
 unfolding number_at
@@ -27,6 +28,7 @@ header_of number index fits =
     let original = little_number-reads_back 4 (length_of index) [] (omega arith) in
     record {
       whole = refl;
+      link = refl;
       nanos = rw (seconds, microseconds) refl;
       captured = sym told;
       limit = omega arith;

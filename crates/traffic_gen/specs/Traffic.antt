@@ -2,25 +2,23 @@
 use Rattle.std.specs.Prelude.{ℕ, ◌+◌, ◌*◌, ◌/◌, ◌%◌, List, ◌++◌, length}
 use Rattle.std.specs.List.{flat_map, range_with_len}
 use Rattle.byteorder.specs.Endian.{little_bytes}
-use Rattle.pcap_reader.specs.declared.format.TheConstants.{MAGIC_MICROS, MAJOR, MINOR, LONGEST, LINK_ETHERNET, NANOS_PER_SECOND, NANOS_PER_MICRO}
-use Rattle.traffic_gen.specs.declared.layout.TheConstants.{PACKETS_PER_SECOND, MICROSECONDS_APART}
 use Rattle.traffic_gen.specs.Packet.{length_of, frame_of}
 
 -- the magic number of little-endian captures with microseconds, version 2.4, two fields that are read over, the greatest captured length, and the link type of Ethernet
 abbrev pub file_header : List ℕ
 file_header =
-    little_bytes 4 MAGIC_MICROS ++ (little_bytes 2 MAJOR ++ (little_bytes 2 MINOR ++ (little_bytes 4 0 ++ (little_bytes 4 0 ++ (little_bytes 4 LONGEST ++ little_bytes 4 LINK_ETHERNET)))))
+    little_bytes 4 0xa1b2_c3d4 ++ (little_bytes 2 2 ++ (little_bytes 2 4 ++ (little_bytes 4 0 ++ (little_bytes 4 0 ++ (little_bytes 4 262_144 ++ little_bytes 4 1)))))
 
--- when the packet at an index was captured: whole seconds, and microseconds
+-- when the packet at an index was captured: whole seconds, and microseconds; a thousand packets come in a second
 abbrev pub seconds_of : ℕ → ℕ
-seconds_of index = index / PACKETS_PER_SECOND
+seconds_of index = index / 1_000
 
 abbrev pub microseconds_of : ℕ → ℕ
-microseconds_of index = MICROSECONDS_APART * (index % PACKETS_PER_SECOND)
+microseconds_of index = 1_000 * (index % 1_000)
 
 -- the same in nanoseconds
 abbrev pub nanos_of : ℕ → ℕ
-nanos_of index = seconds_of index * NANOS_PER_SECOND + microseconds_of index * NANOS_PER_MICRO
+nanos_of index = seconds_of index * 1_000_000_000 + microseconds_of index * 1_000
 
 -- the header of a record with so many captured bytes
 abbrev pub record_header : ℕ → ℕ → List ℕ

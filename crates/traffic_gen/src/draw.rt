@@ -12,10 +12,10 @@ pub const INCREMENT: u64 = 1_013_904_223;
 /// (Knuth, The Art of Computer Programming, volume 3, section 6.4).
 pub const SPREAD: u64 = 2_654_435_761;
 
-/// How many flows carry half of the packets.
+/// How many flows a packet may be of where its number is in the lower half of the range.
 pub const LARGE_FLOWS: u32 = 4;
 
-/// How many flows carry the other half.
+/// How many others it may be of in the upper half.
 pub const SMALL_FLOWS: u32 = 1020;
 
 // One step of the generator.

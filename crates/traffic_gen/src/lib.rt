@@ -1,9 +1,10 @@
 //! Captures that are made from two numbers, for tests and measurements.
 //!
 //! The traffic of a number is defined as one list of bytes (`specs/Traffic.antt`): a capture of
-//! Ethernet frames of TCP and UDP over IPv4, half of them of four large flows. [`make`] writes it,
-//! a [`TrafficSource`] gives it, both byte for byte, and [`info_at`] answers the fields of any of
-//! its packets without making the bytes. It is a whole capture of its packets ([`good_capture`]).
+//! Ethernet frames of TCP and UDP over IPv4. A number is drawn for each packet: in the lower half of
+//! its range the packet is of one of four large flows. [`make`] writes it, a [`TrafficSource`] gives
+//! it, both byte for byte, and [`info_at`] answers the fields of any of its packets without making
+//! the bytes. It is a whole capture of its packets ([`good_capture`]).
 #![tactic(auto)]
 
 mod ahead;
@@ -12,6 +13,7 @@ mod frame;
 mod info;
 mod laws;
 mod layout;
+mod limit_laws;
 mod record;
 mod source;
 #[cfg(test)]
@@ -22,5 +24,6 @@ mod writing;
 pub use info::info_at;
 pub use laws::good_capture;
 pub use layout::MOST_RECORDS;
+pub use limit_laws::limits_are_stated;
 pub use source::TrafficSource;
 pub use writing::make;
