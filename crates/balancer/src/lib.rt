@@ -12,6 +12,7 @@
 mod balancer;
 mod choice;
 mod laws;
+mod limit_laws;
 mod limits;
 mod line;
 mod number;
@@ -30,6 +31,7 @@ mod window;
 
 pub use balancer::Balancer;
 pub use laws::{plans_have_lines, rounds_lower};
+pub use limit_laws::{limits_are_stated, plan_texts_are_stated};
 pub use limits::{MOST_LOAD, MOST_PROPOSALS};
 pub use plan::plan_text;
 pub use plan_fault::PlanFault;

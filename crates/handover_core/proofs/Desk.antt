@@ -46,10 +46,10 @@ legal-post ds o x c l f =
     (λ (ne : o ≡ c → ⊥). rw (stream-away c o ds x ne) l) (cases_eq o c)
 
 -- the counts of a bucket after one more packet
-count-here : (b : ℕ) (ps : List Parcel) (p : Parcel) → p.bucket ≡ b → count_in b (ps ++ p ∷ []) ≡ count_in b ps + 1
+pub count-here : (b : ℕ) (ps : List Parcel) (p : Parcel) → p.bucket ≡ b → count_in b (ps ++ p ∷ []) ≡ count_in b ps + 1
 count-here b ps p e = count_in-append b ps (p ∷ []) ∙ ap (λ (t : Bool). count_in b ps + (0 + (if t then 1 else 0))) (eq-eqb p.bucket b e)
 
-count-other : (b : ℕ) (ps : List Parcel) (p : Parcel) → p.bucket ≢ b → count_in b (ps ++ p ∷ []) ≡ count_in b ps
+pub count-other : (b : ℕ) (ps : List Parcel) (p : Parcel) → p.bucket ≢ b → count_in b (ps ++ p ∷ []) ≡ count_in b ps
 count-other b ps p ne = let e = count_in-append b ps (p ∷ []) ∙ ap (λ (t : Bool). count_in b ps + (0 + (if t then 1 else 0))) (ne_eqb p.bucket b ne) in e ∙ omega arith
 
 -- a packet of bucket q
@@ -121,16 +121,16 @@ pub IsDesk-same : (owner sent start owner' sent' start' : ℕ → ℕ) (ds : Lis
 IsDesk-same owner sent start owner' sent' start' ds d o k s = record { pictures = λ b. rw (o b, k b, s b) (d.pictures b); open_lists = d.open_lists; legal = d.legal }
 
 -- a bucket's owner, start and tails after one more try
-owner-here : (start : List ℕ) (ts : List Try) (a : Ask) (o : Outcome) (b : ℕ) → ask_bucket a ≡ b → owner_after start (ts ++ try_of a o ∷ []) b ≡ owner_by (owner_after start ts b) (ask_to a) o
+pub owner-here : (start : List ℕ) (ts : List Try) (a : Ask) (o : Outcome) (b : ℕ) → ask_bucket a ≡ b → owner_after start (ts ++ try_of a o ∷ []) b ≡ owner_by (owner_after start ts b) (ask_to a) o
 owner-here start ts a o b e = owner_from-append b (slice_index start b) ts (try_of a o ∷ []) ∙ ap (λ (t : Bool). if t then owner_by (owner_after start ts b) (ask_to a) o else owner_after start ts b) (eq-eqb (ask_bucket a) b e)
 
-owner-other : (start : List ℕ) (ts : List Try) (a : Ask) (o : Outcome) (b : ℕ) → ask_bucket a ≢ b → owner_after start (ts ++ try_of a o ∷ []) b ≡ owner_after start ts b
+pub owner-other : (start : List ℕ) (ts : List Try) (a : Ask) (o : Outcome) (b : ℕ) → ask_bucket a ≢ b → owner_after start (ts ++ try_of a o ∷ []) b ≡ owner_after start ts b
 owner-other start ts a o b ne = owner_from-append b (slice_index start b) ts (try_of a o ∷ []) ∙ ap (λ (t : Bool). if t then owner_by (owner_after start ts b) (ask_to a) o else owner_after start ts b) (ne_eqb (ask_bucket a) b ne)
 
-tail-here : (ts : List Try) (a : Ask) (o : Outcome) (b : ℕ) → ask_bucket a ≡ b → tail_from b 0 (ts ++ try_of a o ∷ []) ≡ tail_by (tail_from b 0 ts) o
+pub tail-here : (ts : List Try) (a : Ask) (o : Outcome) (b : ℕ) → ask_bucket a ≡ b → tail_from b 0 (ts ++ try_of a o ∷ []) ≡ tail_by (tail_from b 0 ts) o
 tail-here ts a o b e = tail_from-append b 0 ts (try_of a o ∷ []) ∙ ap (λ (t : Bool). if t then tail_by (tail_from b 0 ts) o else tail_from b 0 ts) (eq-eqb (ask_bucket a) b e)
 
-tail-other : (ts : List Try) (a : Ask) (o : Outcome) (b : ℕ) → ask_bucket a ≢ b → tail_from b 0 (ts ++ try_of a o ∷ []) ≡ tail_from b 0 ts
+pub tail-other : (ts : List Try) (a : Ask) (o : Outcome) (b : ℕ) → ask_bucket a ≢ b → tail_from b 0 (ts ++ try_of a o ∷ []) ≡ tail_from b 0 ts
 tail-other ts a o b ne = tail_from-append b 0 ts (try_of a o ∷ []) ∙ ap (λ (t : Bool). if t then tail_by (tail_from b 0 ts) o else tail_from b 0 ts) (ne_eqb (ask_bucket a) b ne)
 
 tails-here : (ts : List Try) (a : Ask) (o : Outcome) (b : ℕ) → ask_bucket a ≡ b → tails b (ts ++ try_of a o ∷ []) ≡ tails b ts ++ tail_list o

@@ -13,10 +13,7 @@ use Rattle.handover_core.specs.State.{MachineView, core_at}
 use Rattle.handover_core.specs.Machine.{is_end, has_end, end_sent}
 use Rattle.handover_core.specs.Sound.{IsStreamed}
 use Rattle.handover_core.proofs.Frames.{has_end-end}
-
-follows-open : (xs : List Item) (y : Item) → Follows xs y → is_open xs ≡ true
-follows-open xs (Of kind b place) f = f.0
-follows-open xs End f = f
+use Rattle.handover_core.proofs.Streams.{follows-open}
 
 pub open-no_end : (xs : List Item) → is_open xs ≡ true → has_end xs ≡ false
 open-no_end [] o = refl

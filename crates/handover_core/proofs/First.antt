@@ -52,11 +52,19 @@ queue-first : (owners : List ℕ) (cores : ℕ) (packets : List ℕ) (pool moves
 unfolding fresh_core
 queue-first owners cores packets pool moves c = core-first (λ (s : CoreState). s.queue ≡ []) owners cores packets pool moves c refl refl
 
+pub taken-first : (owners : List ℕ) (cores : ℕ) (packets : List ℕ) (pool moves c : ℕ) → (core_at (first_state owners cores packets pool moves) c).taken ≡ []
+unfolding fresh_core
+taken-first owners cores packets pool moves c = core-first (λ (s : CoreState). s.taken ≡ []) owners cores packets pool moves c refl refl
+
 none-first : (owners : List ℕ) (cores : ℕ) (packets : List ℕ) (pool moves c : ℕ) → (core_at (first_state owners cores packets pool moves) c).taken ++ (core_at (first_state owners cores packets pool moves) c).queue ≡ []
 unfolding fresh_core
 none-first owners cores packets pool moves c = core-first (λ (s : CoreState). s.taken ++ s.queue ≡ []) owners cores packets pool moves c refl refl
 
-start-first : (owners : List ℕ) (cores : ℕ) (packets : List ℕ) (pool moves b : ℕ) → (bucket_at (first_state owners cores packets pool moves) b).start ≡ 0
+pub owner-first : (owners : List ℕ) (cores : ℕ) (packets : List ℕ) (pool moves b : ℕ) → b < length (first_state owners cores packets pool moves).buckets → (bucket_at (first_state owners cores packets pool moves) b).owner ≡ slice_index owners b
+unfolding fresh_bucket
+owner-first owners cores packets pool moves b l = ap (λ (s : BucketState). s.owner) (bucket-first owners cores packets pool moves b (let n = length-map owners fresh_bucket in omega arith))
+
+pub start-first : (owners : List ℕ) (cores : ℕ) (packets : List ℕ) (pool moves b : ℕ) → (bucket_at (first_state owners cores packets pool moves) b).start ≡ 0
 unfolding fresh_bucket
 start-first owners cores packets pool moves b =
     ⊎_elim (λ (l : b < length owners). ap (λ (s : BucketState). s.start) (bucket-first owners cores packets pool moves b l))

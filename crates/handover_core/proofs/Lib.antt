@@ -46,3 +46,7 @@ pub mod News
 pub mod Taken
 pub mod Neighbours
 pub mod Finishing
+pub mod SpanSteps
+pub mod SpanStints
+pub mod Posted
+pub mod RunTold

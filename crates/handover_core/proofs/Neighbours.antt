@@ -17,7 +17,7 @@ use Rattle.handover_core.specs.Neighbours.{IsPassing, FitsTaken, AreTaken, AreNe
 use Rattle.handover_core.specs.Legal.{new, stand_from}
 use Rattle.handover_core.proofs.Enabled.{is_enabled}
 use Rattle.handover_core.proofs.OneHand.{at_finisher, finishes-holds}
-use Rattle.handover_core.proofs.First.{hand-first}
+use Rattle.handover_core.proofs.First.{hand-first, taken-first}
 use Rattle.handover_core.proofs.Steps.{step-sound}
 use Rattle.handover_core.proofs.Starts.{start-sound, run-sound}
 use Rattle.handover_core.proofs.Taken.{step-taken}
@@ -84,14 +84,15 @@ run-taken m (e ∷ es) last s t r = let i = is_enabled m e r.0 in run-taken (ste
 
 start-taken : (m : MachineView) → IsStart m → AreTaken m
 start-taken m s = subst AreTaken (sym s.is) (λ c b l. subst (λ (h : Hand). FitsTaken h (has_end (core_at (first_state s.owners s.cores s.packets s.pool s.moves) c).taken) (stand_from b new (core_at (first_state s.owners s.cores s.packets s.pool s.moves) c).taken))
-    (sym (hand-first s.owners s.cores s.packets s.pool s.moves c b)) tt)
+    (sym (hand-first s.owners s.cores s.packets s.pool s.moves c b)) (inl (ap (stand_from b new) (taken-first s.owners s.cores s.packets s.pool s.moves c))))
+
+pub sound-neighbours : (m : MachineView) → IsSound m → AreTaken m → AreNeighbours m
+sound-neighbours m k t = record {
+  rise = λ b l. (k.buckets.buckets b l).joins;
+  words = λ b l o. words-in m b k o (k.buckets.buckets b l).stage (k.buckets.buckets b l).is_in;
+  seen = k.buckets.seen;
+  taken = t;
+}
 
 pub run-neighbours : (start last : MachineView) (events : List Event) → IsStart start → Runs start events last → AreNeighbours last
-run-neighbours start last events s r =
-    let k = run-sound start last events s r in
-    record {
-      rise = λ b l. (k.buckets.buckets b l).joins;
-      words = λ b l o. words-in last b k o (k.buckets.buckets b l).stage (k.buckets.buckets b l).is_in;
-      seen = k.buckets.seen;
-      taken = run-taken start events last (start-sound start s) (start-taken start s) r;
-    }
+run-neighbours start last events s r = sound-neighbours last (run-sound start last events s r) (run-taken start events last (start-sound start s) (start-taken start s) r)

@@ -1,8 +1,8 @@
 -- The cores' lists after one more item.
-use Rattle.std.proofs.Common.{◌≡◌, ◌≢◌, ℕ, List, [], ◌∷◌, ◌++◌, append_assoc, Bool, true, if◌then◌else◌, ◌==◌, refl, sym, ap, ◌∙◌, eq-eqb, ne_eqb}
+use Rattle.std.proofs.Common.{◌≡◌, ◌≢◌, ℕ, List, [], ◌∷◌, ◌++◌, append_assoc, Bool, true, false, if◌then◌else◌, ◌==◌, refl, sym, ap, ◌∙◌, eq-eqb, ne_eqb}
 use Rattle.std.proofs.lemmas.List.{append-nil}
 use Rattle.indirection.proofs.Tests.{by_test}
-use Rattle.indirection.proofs.Each.{EachFrom-push, EachFrom-front}
+use Rattle.indirection.proofs.Each.{EachFrom-push, EachFrom-front, EachFrom-at}
 use Rattle.handover_core.specs.declared.item.Kind.{Kind}
 use Rattle.handover_core.specs.declared.item.Item.{Item}
 use Rattle.handover_core.specs.declared.item.Item.TheVariants.{Of, End}
@@ -17,6 +17,15 @@ Legal-push xs x l f = EachFrom-push Follows [] xs x l f
 
 pub Legal-front : (xs ys : List Item) → Legal (xs ++ ys) → Legal xs
 Legal-front xs ys l = EachFrom-front Follows [] xs ys l
+
+pub follows-open : (xs : List Item) (x : Item) → Follows xs x → is_open xs ≡ true
+follows-open xs (Of kind bucket place) f = f.0
+follows-open xs End f = f
+
+-- behind an End nothing follows
+pub Legal-ended : (xs ys : List Item) → Legal (xs ++ ys) → is_open xs ≡ false → ys ≡ []
+Legal-ended xs [] l e = refl
+Legal-ended xs (y ∷ ys) l e = absurd (let f : true ≡ false = sym (follows-open xs y (EachFrom-at Follows [] xs y ys l)) ∙ e in cc)
 
 pub stream-append : (c : ℕ) (xs ys : List Post) → stream c (xs ++ ys) ≡ stream c xs ++ stream c ys
 stream-append c [] ys = refl

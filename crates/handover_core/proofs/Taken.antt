@@ -12,7 +12,7 @@ use Rattle.handover_core.specs.declared.event.Event.{Event}
 use Rattle.handover_core.specs.declared.event.Event.TheVariants.{Send, Look, Move, Place, SendEnd, Take, Claim, Release}
 use Rattle.handover_core.specs.declared.bucket_state.BucketState.{BucketState}
 use Rattle.handover_core.specs.Dispatch.{kind_at}
-use Rattle.handover_core.specs.Legal.{Stand, new, within, stand_by, stand_from}
+use Rattle.handover_core.specs.Legal.{Stand, new, within, past, stand_by, stand_from}
 use Rattle.handover_core.specs.State.{Hand, Away, Waiting, Held, Leaving, CoreState, MachineView, bucket_at, core_at, hand_at, hand_in, sent_of, set_core, set_bucket, set_hand}
 use Rattle.handover_core.specs.Machine.{has_end, step, post, met, freed, leave, shelf_done, claimed_hand}
 use Rattle.handover_core.specs.Bucket.{places_from}
@@ -45,7 +45,7 @@ met-taken h Next b place e m = ⊎_elim
 
 -- End is taken
 left-taken : (h : Hand) (e : Bool) (s : Stand) → FitsTaken h e s → FitsTaken (leave h) true s
-left-taken Away e s f = tt
+left-taken Away e s f = inr (inr refl)
 left-taken (Waiting ps) e s f = f
 left-taken (Held a d) e s f = inr refl
 left-taken (Leaving a d) e s f = inr refl
@@ -125,12 +125,16 @@ claim-taken m c b s i t = by_claim AreTaken m c b i.2
     (hand-taken m1 c b (claimed_hand m c b (first ∷ rest)) i.0 (subst (λ (n : ℕ). b < n) (sym (s.shaped.hands c i.0)) i.1)
     (claimed-taken (has_end (core_at m c).taken) first (shelf_done (bucket_at m b).shelf + length (first ∷ rest)) (stand_from b new (core_at m c).taken) (st ∙ ap within d)) t))
 
+released-taken : (start done : ℕ) (e : Bool) (s : Stand) → FitsTaken (Leaving start done) e s → FitsTaken Away e s
+released-taken start done e s f = ⊎_elim (λ (q : s ≡ past done). inr (inl (done, q))) (λ (q : e ≡ true). inr (inr q)) f
+
 release-taken : (m : MachineView) (c b : ℕ) → IsSound m → IsEnabled m (Release c b) → AreTaken m → AreTaken (step m (Release c b))
 release-taken m c b s i t = by_release AreTaken m c b i.2
     (λ start done e.
     let m1 : MachineView = record m { releases = m.releases + 1 } in
     bucket-taken (set_core m1 c (set_hand (core_at m c) b Away)) b (record (bucket_at m b) { word = 2 * done + 1; shelf = Some done })
-    (hand-taken m1 c b Away i.0 (subst (λ (n : ℕ). b < n) (sym (s.shaped.hands c i.0)) i.1) tt t))
+    (hand-taken m1 c b Away i.0 (subst (λ (n : ℕ). b < n) (sym (s.shaped.hands c i.0)) i.1)
+    (released-taken start done (has_end (core_at m c).taken) (stand_from b new (core_at m c).taken) (subst (λ (h : Hand). FitsTaken h (has_end (core_at m c).taken) (stand_from b new (core_at m c).taken)) e (t c b i.1))) t))
 
 pub step-taken : (m : MachineView) (e : Event) → IsSound m → IsEnabled m e → AreTaken m → AreTaken (step m e)
 step-taken m Send s i t = post-taken (record m { sent = m.sent + 1; free = m.free - 1 }) (bucket_at m q).owner (Of (kind_at (bucket_at m q).start (sent_of m q)) q (sent_of m q)) (s.shaped.owners q (s.shaped.packets m.sent i.0)) t where

@@ -11,3 +11,5 @@ pub mod Promises
 pub mod Cores
 pub mod Inside
 pub mod Neighbours
+pub mod Spans
+pub mod Told

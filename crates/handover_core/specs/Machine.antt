@@ -9,6 +9,7 @@ use Rattle.handover_core.specs.declared.event.Event.{Event}
 use Rattle.handover_core.specs.declared.event.Event.TheVariants.{Send, Look, Move, Place, SendEnd, Take, Claim, Release}
 use Rattle.indirection.specs.Tries.{upto}
 use Rattle.handover_core.specs.Dispatch.{kind_at}
+use Rattle.handover_core.specs.declared.post.Post.{Post}
 use Rattle.handover_core.specs.State.{Hand, Away, Waiting, Held, Leaving, CoreState, MachineView, bucket_at, core_at, hand_at, sent_of, set_bucket, set_core, set_hand}
 
 -- whether an item is End
@@ -132,6 +133,15 @@ step m (SendEnd c) = post m c End
 step m (Take c) = took m c (core_at m c).queue
 step m (Claim c b) = claimed m c b (parked (hand_at m c b))
 step m (Release c b) = released m c b (hand_at m c b)
+
+-- what an event sends, and to which core
+abbrev pub posts_by : MachineView → Event → List Post
+posts_by m Send = sends (slice_index m.packets m.sent) where
+  sends : ℕ → List Post
+  sends b = record { core = (bucket_at m b).owner; item = Of (kind_at (bucket_at m b).start (sent_of m b)) b (sent_of m b) } ∷ []
+posts_by m (Move b to) = record { core = (bucket_at m b).owner; item = Of Mark b (sent_of m b) } ∷ []
+posts_by m (SendEnd c) = record { core = c; item = End } ∷ []
+posts_by m e = []
 
 -- an event of each core, and an event of each core and bucket, by lowest core and then by lowest bucket
 abbrev pub each_core : MachineView → (ℕ → Event) → List Event

@@ -29,9 +29,9 @@ place_after [] = 0
 place_after (p ∷ []) = p + 1
 place_after (p ∷ q ∷ ps) = place_after (q ∷ ps)
 
--- what a core took last of a bucket: of what waits, the last packet that waits; of a table that is held, the packet at `done` less one; of one that is to be released, the mark at `done`, or End
+-- what a core took last of a bucket: of one that it has nothing of, nothing, or a mark, or End was taken; of what waits, the last packet that waits; of a table that is held, the packet at `done` less one; of one that is to be released, the mark at `done`, or End
 abbrev pub FitsTaken : Hand → Bool → Stand → Type 0
-FitsTaken Away ended stand = Unit {0}
+FitsTaken Away ended stand = (stand ≡ new) ⊎ ((n : ℕ) × (stand ≡ past n)) ⊎ (ended ≡ true)
 FitsTaken (Waiting places) ended stand = stand ≡ within (place_after places)
 FitsTaken (Held start done) ended stand = stand ≡ within done
 FitsTaken (Leaving start done) ended stand = (stand ≡ past done) ⊎ (ended ≡ true)

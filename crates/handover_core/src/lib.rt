@@ -16,10 +16,12 @@
 #![tactic(auto)]
 
 mod bucket_state;
+mod dispatch_laws;
 mod duty;
 mod event;
 mod item;
 mod laws;
+mod limit_laws;
 mod limits;
 mod machine;
 mod post;
@@ -27,10 +29,14 @@ mod promises;
 mod worker_core;
 
 pub use bucket_state::BucketState;
+pub use dispatch_laws::{
+    events_send, runs_send_their_steps, streams_are_legal, streams_have_the_stints,
+};
 pub(crate) use duty::Duty;
 pub use event::Event;
 pub use item::{Item, Kind};
 pub use laws::legal_lists;
+pub use limit_laws::limits_are_stated;
 pub use limits::{FEWEST_CELLS, MOST_CELLS, MOST_PACKETS};
 pub use machine::Machine;
 pub use post::Post;

@@ -1,14 +1,26 @@
+pub mod Answered
+pub mod AskedInTurn
 pub mod Decides
 pub mod Each
+pub mod EntryPlaces
+pub mod KeptEntries
 pub mod LastRounds
 pub mod LawfulSteps
+pub mod OrdersIn
 pub mod Owners
 pub mod Positions
+pub mod RoundFacts
+pub mod RoundOrders
 pub mod RoundTries
+pub mod RoundsIn
+pub mod SentOwned
 mod SmallRuns
+pub mod Splits
 pub mod Steps
+pub mod StintOwners
 pub mod Stints
 pub mod Tails
 pub mod Tests
 pub mod Told
 pub mod Upto
+pub mod WholeRounds

@@ -62,12 +62,12 @@ AskedAt-get n [] k a all found = absurd (cc)
 AskedAt-get n (b ∷ asks) zero a all found = let same : b ≡ a = cc in subst (λ (x : Ask). ask_at x ≡ n) same all.0
 AskedAt-get n (b ∷ asks) (suc k) a all found = AskedAt-get n asks k a all.1 found
 
-try_due : (round : Bool) (o : Option Ask) (a : Ask) → (if round then RoundDue else ask_due o) ≡ TryDue a → o ≡ Some a
+pub try_due : (round : Bool) (o : Option Ask) (a : Ask) → (if round then RoundDue else ask_due o) ≡ TryDue a → o ≡ Some a
 try_due true o a is = absurd (cc)
 try_due false None a is = absurd (cc)
 try_due false (Some b) a is = let same : b ≡ a = cc in ap Some same
 
-here_from-push : (held ss : List Step) (x : Step) → here_from held (ss ++ x ∷ []) ≡ here_from (here_from held ss) (x ∷ [])
+pub here_from-push : (held ss : List Step) (x : Step) → here_from held (ss ++ x ∷ []) ≡ here_from (here_from held ss) (x ∷ [])
 here_from-push held [] x = refl
 here_from-push held (Rounds h ∷ ss) x = here_from-push (held ++ Rounds h ∷ []) ss x
 here_from-push held (Tries a o ∷ ss) x = here_from-push (held ++ Tries a o ∷ []) ss x
@@ -78,7 +78,7 @@ abbrev RoundsHere : List Step → Type 0
 RoundsHere ss = RoundsAt (position ss) (here_from [] ss)
 
 -- so what is due is asked there
-asked_here : (rules : Rules) (ss : List Step) (a : Ask) → RoundsHere ss → due rules ss ≡ TryDue a → ask_at a ≡ position ss
+pub asked_here : (rules : Rules) (ss : List Step) (a : Ask) → RoundsHere ss → due rules ss ≡ TryDue a → ask_at a ≡ position ss
 asked_here rules ss a rounds is =
     AskedAt-get (position ss) (proposed_in (here_from [] ss) ++ orders_at rules (position ss)) (length (tries_of (here_from [] ss))) a
     (AskedAt-append (position ss) (proposed_in (here_from [] ss)) (orders_at rules (position ss)) (AskedAt-rounds (position ss) (here_from [] ss) rounds) (AskedAt-orders (position ss) rules.moves))
@@ -104,11 +104,11 @@ TriesFrom n (Rounds h ∷ ss) = TriesFrom n ss
 TriesFrom n (Tries a o ∷ ss) = (n ≤ ask_at a) × TriesFrom n ss
 TriesFrom n (Sends p ∷ ss) = TriesFrom n ss
 
-record InPlace (ss : List Step) : Type 0 where
-  rounds : RoundsHere ss
-  tries_up_to : TriesUpTo (position ss) ss
+pub record InPlace (ss : List Step) : Type 0 where
+  pub rounds : RoundsHere ss
+  pub tries_up_to : TriesUpTo (position ss) ss
 
-position-send : (ss : List Step) (p : Parcel) → position (ss ++ Sends p ∷ []) ≡ position ss + 1
+pub position-send : (ss : List Step) (p : Parcel) → position (ss ++ Sends p ∷ []) ≡ position ss + 1
 position-send ss p = ap (λ (ps : List Parcel). length ps) (parcels_of-append ss (Sends p ∷ [])) ∙ length-append (parcels_of ss) (p ∷ [])
 
 step_in_place : (rules : Rules) (ss : List Step) (x : Step) → InPlace ss → Fits rules ss x → InPlace (ss ++ x ∷ [])
@@ -125,10 +125,10 @@ step_in_place rules ss (Sends p) i fits = record {
   tries_up_to = TriesUpTo-push (position ss) (position (ss ++ Sends p ∷ [])) ss (Sends p) (omega (arith, position-send ss p)) i.tries_up_to tt;
 }
 
-story_in_place : (rules : Rules) (ss : List Step) → Each (Fits rules) ss → InPlace ss
+pub story_in_place : (rules : Rules) (ss : List Step) → Each (Fits rules) ss → InPlace ss
 story_in_place rules ss each = Each-keeps (Fits rules) InPlace (record { rounds = tt; tries_up_to = tt }) (step_in_place rules) ss each
 
-position-more : (ss : List Step) (x : Step) → position ss ≤ position (ss ++ x ∷ [])
+pub position-more : (ss : List Step) (x : Step) → position ss ≤ position (ss ++ x ∷ [])
 position-more ss x = omega (arith, ap (λ (ps : List Parcel). length ps) (parcels_of-append ss (x ∷ [])), length-append (parcels_of ss) (parcels_of (x ∷ [])))
 
 -- the tries behind some steps are at their position or later

@@ -1,5 +1,5 @@
 -- The journals of four small runs as values: each is lawful, gives the custody of its run, and is lawful no more once it is changed.
-use Rattle.std.proofs.Common.{◌≡◌, ℕ, List, [], ◌∷◌, true, false, Some, None, refl, map}
+use Rattle.std.proofs.Common.{◌≡◌, ℕ, List, [], ◌∷◌, true, false, Some, None, refl, map, take}
 use Rattle.indirection.specs.declared.proposal.Proposal.{Proposal}
 use Rattle.indirection.specs.declared.move_order.MoveOrder.{MoveOrder}
 use Rattle.indirection.specs.declared.outcome.Outcome.{Outcome}
@@ -7,10 +7,13 @@ use Rattle.indirection.specs.declared.outcome.Outcome.TheVariants.{Moved, Placed
 use Rattle.indirection.specs.declared.entry.Entry.{Entry}
 use Rattle.indirection.specs.declared.entry.Entry.TheVariants.{Round, Order}
 use Rattle.indirection.specs.JournalView.{JournalView}
-use Rattle.indirection.specs.Story.{Parcel}
+use Rattle.indirection.specs.Views.{RoundView}
+use Rattle.indirection.specs.Story.{Parcel, told, entries_of}
 use Rattle.indirection.specs.Stints.{Stint, stints}
 use Rattle.indirection.specs.Owner.{owner_of}
 use Rattle.indirection.specs.Due.{Rules}
+use Rattle.indirection.specs.Lawful.{cost_in}
+use Rattle.indirection.specs.JournalFacts.{orders_in, orders_up_to, rounds_in, rounds_up_to, last_packets, cost_owned}
 use Rattle.indirection.specs.Judge.{lawful}
 
 abbrev packet : ℕ → Parcel
@@ -139,3 +142,38 @@ no_outcome = refl
 
 one_too_many : lawful rounds four (one_round (2 ∷ 1 ∷ []) (1 ∷ 0 ∷ []) (Moved 2 ∷ Same ∷ [])) ≡ false
 one_too_many = refl
+
+-- what the laws say of these journals, by computing: their orders, the positions of their rounds, the loads of the round, what was sent to each core, and the entries that their stories tell
+
+twice_orders : orders_in twice.entries ≡ orders_up_to there_and_back 6
+twice_orders = refl
+
+met_orders : orders_in (met 5).entries ≡ orders_up_to too_soon 6
+met_orders = refl
+
+outcomes_orders : orders_in (outcomes Placed (InPassage 2 2 None)).entries ≡ orders_up_to each_outcome 3
+outcomes_orders = refl
+
+twice_sent : map (λ c. cost_owned twice c six) (0 ∷ 1 ∷ []) ≡ 3 ∷ 3 ∷ []
+twice_sent = refl
+
+met_sent : map (λ c. cost_owned (met 5) c six) (0 ∷ 1 ∷ []) ≡ 2 ∷ 4 ∷ []
+met_sent = refl
+
+abbrev balanced : JournalView
+balanced = one_round (2 ∷ 1 ∷ []) (1 ∷ 0 ∷ []) (Moved 2 ∷ [])
+
+round_stands : map (λ (r : RoundView). r.at) (rounds_in balanced.entries) ≡ rounds_up_to rounds 4
+round_stands = refl
+
+round_weighs : map (cost_in (last_packets 3 3 four)) (0 ∷ 1 ∷ []) ≡ 2 ∷ 1 ∷ []
+round_weighs = refl
+
+round_sent : map (λ c. cost_owned balanced c (take 3 four)) (0 ∷ 1 ∷ []) ≡ 3 ∷ 0 ∷ []
+round_sent = refl
+
+twice_told : entries_of (told 0 six twice.entries) ≡ twice.entries
+twice_told = refl
+
+round_told : entries_of (told 0 four balanced.entries) ≡ balanced.entries
+round_told = refl

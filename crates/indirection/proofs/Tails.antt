@@ -55,7 +55,7 @@ send_rises ts ps b p risen = record {
 }
 
 -- so in each story that fits
-abbrev AllRisen : List Step → Type 0
+abbrev pub AllRisen : List Step → Type 0
 AllRisen ss = (b : ℕ) → HaveRisen (tries_of ss) (parcels_of ss) b
 
 step_rises : (rules : Rules) (ss : List Step) (x : Step) → AllRisen ss → Fits rules ss x → AllRisen (ss ++ x ∷ [])
@@ -65,7 +65,7 @@ step_rises rules ss (Tries a o) risen fits b =
 step_rises rules ss (Sends p) risen fits b =
     rw (tries_of-send ss p, parcels_of-append ss (Sends p ∷ [])) (send_rises (tries_of ss) (parcels_of ss) b p (risen b))
 
-story_rises : (rules : Rules) (ss : List Step) → Each (Fits rules) ss → AllRisen ss
+pub story_rises : (rules : Rules) (ss : List Step) → Each (Fits rules) ss → AllRisen ss
 story_rises rules ss each = Each-keeps (Fits rules) AllRisen (λ b. record { tails_rise = omega arith; newest = omega arith }) (step_rises rules) ss each
 
 -- the tails of a bucket rise strictly, up to its packets at most

@@ -61,27 +61,27 @@ entry_steps-push r p o h =
 
 -- a story has the packets and the tries that it was told of
 
-parcels_of-sends : (xs : List Parcel) → parcels_of (map Sends xs) ≡ xs
+pub parcels_of-sends : (xs : List Parcel) → parcels_of (map Sends xs) ≡ xs
 parcels_of-sends [] = refl
 parcels_of-sends (x ∷ xs) = ap (λ (z : List Parcel). x ∷ z) (parcels_of-sends xs)
 
-tries_of-sends : (xs : List Parcel) → tries_of (map Sends xs) ≡ []
+pub tries_of-sends : (xs : List Parcel) → tries_of (map Sends xs) ≡ []
 tries_of-sends [] = refl
 tries_of-sends (x ∷ xs) = tries_of-sends xs
 
-parcels_of-tries : (ts : List Try) → parcels_of (map (λ (t : Try). Tries t.ask t.outcome) ts) ≡ []
+pub parcels_of-tries : (ts : List Try) → parcels_of (map (λ (t : Try). Tries t.ask t.outcome) ts) ≡ []
 parcels_of-tries [] = refl
 parcels_of-tries (t ∷ ts) = parcels_of-tries ts
 
-tries_of-tries : (ts : List Try) → tries_of (map (λ (t : Try). Tries t.ask t.outcome) ts) ≡ ts
+pub tries_of-tries : (ts : List Try) → tries_of (map (λ (t : Try). Tries t.ask t.outcome) ts) ≡ ts
 tries_of-tries [] = refl
 tries_of-tries (t ∷ ts) = ap (λ (z : List Try). t ∷ z) (tries_of-tries ts)
 
-parcels_of-entry : (e : Entry) → parcels_of (entry_steps e) ≡ []
+pub parcels_of-entry : (e : Entry) → parcels_of (entry_steps e) ≡ []
 parcels_of-entry (Round r) = parcels_of-tries (round_tries r.at r.proposals r.outcomes)
 parcels_of-entry (Order e) = refl
 
-tries_of-entry : (e : Entry) → tries_of (entry_steps e) ≡ entry_tries e
+pub tries_of-entry : (e : Entry) → tries_of (entry_steps e) ≡ entry_tries e
 tries_of-entry (Round r) = tries_of-tries (round_tries r.at r.proposals r.outcomes)
 tries_of-entry (Order e) = refl
 

@@ -1,5 +1,5 @@
 -- The bucket of a packet, the packets of a bucket, and a packet's place.
-use Rattle.std.specs.Prelude.{ℕ, ◌%◌, List, filter, length, take, ◌==◌}
+use Rattle.std.specs.Prelude.{ℕ, ◌%◌, List, filter, length, ◌==◌}
 
 -- the bucket that a hash falls into, of so many buckets
 abbrev pub bucket_of : ℕ → ℕ → ℕ
@@ -12,7 +12,3 @@ packets_in bucket b packets = filter (λ packet. bucket packet == b) packets
 -- how many packets a bucket has
 abbrev pub total_in : {P : Type 0} → (P → ℕ) → ℕ → List P → ℕ
 total_in bucket b packets = length (packets_in bucket b packets)
-
--- the place that a bucket's next packet has behind the first so many packets
-abbrev pub place_at : {P : Type 0} → (P → ℕ) → ℕ → ℕ → List P → ℕ
-place_at bucket b position packets = total_in bucket b (take position packets)

@@ -1,6 +1,7 @@
 pub mod Buckets
 pub mod Due
 pub mod Each
+pub mod JournalFacts
 pub mod JournalView
 pub mod Judge
 pub mod Lawful

@@ -4,12 +4,16 @@
 //! the list of its entries, and [`owner_at`] is proved equal to the owner that those entries give
 //! a bucket at a position. The packets and the journal of a run are told as one list of steps
 //! (`specs/Story.antt`), and each step is judged by those before it: the layers above speak of
-//! owners, tails, loads and stints in the words that stand here.
+//! owners, tails, loads and stints in the words that stand here. What a lawful journal says, sentence
+//! by sentence, are laws of it ([`lawful_entries`], [`lawful_rounds`], [`lawful_answers`],
+//! [`lawful_owners`]).
 #![tactic(auto)]
 
 mod entry;
 mod journal;
+mod journal_laws;
 mod laws;
+mod limit_laws;
 mod limits;
 mod loads;
 mod move_order;
@@ -23,7 +27,11 @@ mod table_fault;
 
 pub use entry::Entry;
 pub use journal::Journal;
+pub use journal_laws::{
+    lawful_answers, lawful_entries, lawful_owners, lawful_rounds, stories_keep_their_entries,
+};
 pub use laws::{last_rounds, lawful_journals, lawful_steps, stories};
+pub use limit_laws::limits_are_stated;
 pub use limits::{MOST_BUCKETS, MOST_CORES};
 pub use loads::Loads;
 pub use move_order::MoveOrder;

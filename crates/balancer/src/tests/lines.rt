@@ -166,3 +166,23 @@ fn a_line_that_is_too_long(rt: HostRuntime) -> Result<(), Fail> {
     assert!(rt; is_bad_at(rt.alloc(), &text, 1)?);
     Ok(())
 }
+
+// A text whose third line has so many bases of 0, and this behind them: with 998 of them the line
+// has 2,000 bytes.
+fn wide_bases(alloc: Global, behind: &str) -> Result<String, Fail> {
+    let mut text = String::from_str(alloc, "cores 2\nlimit 4\nbase")?;
+    for _ in 0..998 {
+        text.push_str(" 0")?;
+    }
+    text.push_str(behind)?;
+    Ok(text)
+}
+
+#[test]
+fn a_line_of_2000_bytes_and_one_of_2001(rt: HostRuntime) -> Result<(), Fail> {
+    for behind in ["", "\n", "\nbucket 0 1\n", "0", "0\n", "0\nbucket 0 1\n"] {
+        let text = wide_bases(rt.alloc(), behind)?;
+        assert!(rt; is_bad_at(rt.alloc(), text.as_bytes(), 3)?);
+    }
+    Ok(())
+}

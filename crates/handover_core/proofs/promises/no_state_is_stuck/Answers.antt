@@ -15,3 +15,6 @@ returns-clause-workers c = λ start last events s r ne. worker-goes last (run-so
 
 pub returns-clause-ends : goal.returns-clause-ends
 returns-clause-ends c = λ start last events s r. can-finish last (run-sound start last events s r)
+
+pub returns-clause-sound : goal.returns-clause-sound
+returns-clause-sound c = λ m s. ((λ e. stuck-finished m s e, λ f. finished-stops m f), λ ne. worker-goes m s ne, can-finish m s)

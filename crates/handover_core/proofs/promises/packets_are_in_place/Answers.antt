@@ -8,3 +8,6 @@ returns-clause-meets c = λ start last events e s r h. in-place last e (run-soun
 
 pub returns-clause-once : goal.returns-clause-once
 returns-clause-once c = run-worked
+
+pub returns-clause-sound : goal.returns-clause-sound
+returns-clause-sound c = λ m e s h. in-place m e s (is_enabled m e h)

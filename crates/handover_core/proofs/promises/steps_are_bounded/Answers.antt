@@ -11,3 +11,6 @@ returns-clause-falls c = λ start last events e s r h. falls last e (run-sound s
 
 pub returns-clause-runs : goal.returns-clause-runs
 returns-clause-runs c = λ start last events s r. run-steps start events last (start-sound start s) r
+
+pub returns-clause-sound : goal.returns-clause-sound
+returns-clause-sound c = λ m e s h. falls m e s (is_enabled m e h)
