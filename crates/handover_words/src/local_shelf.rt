@@ -1,4 +1,4 @@
-ghost use Rattle.std.specs.Prelude.{◌≡◌, ◌+◌, ◌<◌, ◌≤◌, [], ℕ, Some, IfOk, length, map, replicate, slice_get, vec_len, vec_capacity};
+ghost use Rattle.std.specs.Prelude.{◌≡◌, ◌≢◌, ◌+◌, ◌<◌, ◌≤◌, ℕ, Some, None, IfOk, length, map, replicate, slice_get, slice_index_or, vec_len, vec_capacity};
 ghost use Rattle.std.specs.List.{range_with_len};
 ghost use Rattle.bucket_table.specs.Table.{empty_table};
 ghost use Rattle.handover_words.specs.ShelfEye.{fresh};
@@ -40,7 +40,7 @@ impl<T: Shelved<N>, N: RunName> Model for LocalShelf<T, N> {
 }
 
 // One empty table of each bucket, in the order of the buckets.
-fn first_tables<W: FlowWork>(
+pub(crate) fn first_tables<W: FlowWork>(
     alloc: Global,
     buckets: u16,
 ) -> Result<Vec<Option<BucketTable<W>>>, NoMemory>
@@ -100,7 +100,7 @@ impl<T: Shelved<N> + Drop, N: RunName> LocalShelf<T, N> {
     /// Appends the tables to a list that has room for them, in the order of the buckets, while none
     /// of them is out.
     pub fn close(self, into: &mut Vec<T>)
-        requires free { self.eye.held ≡ [] }
+        requires home { (b : ℕ) → b < length self.homes → slice_index_or self.homes b None ≢ None }
         requires room { vec_len into.old + self.eye.buckets ≤ vec_capacity into.old }
         ensures tables { Closes T.lies self into.old.items into.new.items }
         ensures room { vec_capacity into.new ≡ vec_capacity into.old }
