@@ -1,3 +1,4 @@
+pub mod Beside
 pub mod Calm
 pub mod Cells
 pub mod ClaimEvents
@@ -6,6 +7,10 @@ pub mod Counted
 pub mod Dues
 pub mod Events
 pub mod FirstShown
+pub mod Grown
+pub mod HeldWords
+pub mod InLine
+pub mod Keys
 pub mod OthersShown
 pub mod Parts
 pub mod Places
@@ -13,11 +18,18 @@ pub mod Pools
 pub mod Promises
 pub mod ReleaseEvents
 pub mod Sending
+pub mod Sends
 pub mod SharedShelf
 pub mod Shown
 pub mod Standing
 pub mod Starts
 pub mod TakeEvents
+pub mod Tallied
 pub mod Ties
+pub mod Told
 pub mod Turned
 pub mod TurnEvents
+pub mod CellSpans
+pub mod CustodySteps
+pub mod CustodyLogs
+pub mod Seats

@@ -1,9 +1,16 @@
 // Laws of workers and their turns.
-ghost use Rattle.std.specs.Prelude.{◌≡◌, ◌≢◌, ◌⊎◌, ◌<◌, ◌↔◌, ℕ, List, [], length, map, replicate, Option, Some, true};
+ghost use Rattle.std.specs.Prelude.{◌≡◌, ◌≢◌, ◌⊎◌, ◌<◌, ◌↔◌, ◌++◌, ℕ, List, [], length, map, replicate, Option, Some, true, false, All};
+ghost use Rattle.packet_fields.specs.declared.key.FlowKey.{FlowKey};
 ghost use Rattle.std.specs.List.{range_with_len};
 ghost use Rattle.toeplitz.specs.declared.key.Key.{Key};
 ghost use Rattle.bucket_table.specs.Table.{TableOf, empty_table};
-ghost use Rattle.handover_core.specs.State.{MachineView, first_state};
+ghost use Rattle.handover_core.specs.declared.event.Event.{Event};
+ghost use Rattle.handover_core.specs.State.{MachineView, core_at, first_state};
+ghost use Rattle.handover_core.specs.Machine.{step, posts_by};
+ghost use Rattle.handover_core.specs.Dispatch.{stream};
+ghost use Rattle.handover_core.specs.Promises.{IsHeldOnce, IsOfWorker};
+ghost use Rattle.core_queue.specs.declared.item.Seen.{Seen};
+ghost use Rattle.core_queue.specs.Cells.{plain, LegalCells};
 ghost use Rattle.core_queue.specs.declared.eye.LaneEye.{LaneEye};
 ghost use Rattle.core_queue.specs.LaneEye.{lane};
 ghost use Rattle.core_queue.specs.NewEye.{new_eye};
@@ -11,10 +18,12 @@ ghost use Rattle.parked_queue.specs.Parked.{cells_at, AllEmpty};
 ghost use Rattle.handover_words.specs.declared.eye.ShelfEye.{ShelfEye};
 ghost use Rattle.handover_words.specs.Stock.{stock};
 ghost use Rattle.load_meter.specs.declared.eye.LoadEye.{LoadEye};
+ghost use Rattle.load_meter.specs.LoadEye.{noted_at};
 ghost use Rattle.worker_loop.specs.declared.slot.Slot.TheVariants.{Leaving};
 ghost use Rattle.worker_loop.specs.declared.worker_turn.WorkerTurn.{WorkerTurn};
 ghost use Rattle.worker_loop.specs.declared.worker_turn.WorkerTurn.TheVariants.{Ended};
-ghost use Rattle.worker_loop.specs.Job.{Job, run_of};
+ghost use Rattle.worker_loop.specs.Job.{Job, Run, Stands, run_of};
+ghost use Rattle.worker_loop.specs.Keys.{HasBucket};
 ghost use Rattle.worker_loop.specs.Face.{Face};
 ghost use Rattle.worker_loop.specs.Fresh.{fresh_face};
 ghost use Rattle.worker_loop.specs.Counts.{more, packets_taken};
@@ -22,22 +31,32 @@ ghost use Rattle.worker_loop.specs.Tied.{Tied, slot_at};
 ghost use Rattle.worker_loop.specs.Scene.{Scene, scene};
 ghost use Rattle.worker_loop.specs.Rules.{IsTurn};
 ghost use Rattle.worker_loop.specs.Promises.{IsBehindMark, IsOver};
-ghost use Rattle.worker_loop.specs.Schedule.{after};
+ghost use Rattle.worker_loop.specs.Schedule.{after, worked_of};
 ghost use Rattle.worker_loop.specs.Shows.{Shows, AreInPlace, IsEvent, event_of};
-ghost use Rattle.worker_loop.specs.Turned.{SameRun, KeepsClaims};
+ghost use Rattle.worker_loop.specs.Turned.{SameRun, SameTaken, SameClaims, SameNoted, KeepsClaims, Tells};
 
 use flow_work::FlowWork;
 
 /// What a worker that is tied to its ends promises. A table leaves, and so is released, only behind
 /// the mark of its stint, with as many packets done as the mark says, or once End was taken. A turn
 /// is the last one exactly where End was taken and nothing waits, is held or leaves. Where nothing
-/// is parked, each packet that was taken was worked once.
+/// is parked, each packet that was taken was worked once. Where End was taken, all that was sent was
+/// taken.
 pub fn workers_keep_order<W: FlowWork>()
     ensures released { (j : Job W.State) (w : Face (TableOf W.State)) (lane : LaneEye) (shelf : ShelfEye) (meter : LoadEye) (b : ℕ) (t : TableOf W.State)
         → Tied j w lane shelf meter → b < w.run.buckets → slot_at b w ≡ Leaving t → (w.took_end ≡ true) ⊎ IsBehindMark b t.done (cells_at b w.lot) lane.taken }
     ensures ended { (j : Job W.State) (s t : Scene (TableOf W.State)) (turn : WorkerTurn) → IsTurn j s turn t → (turn ≡ Ended) ↔ IsOver s.worker }
     ensures worked { (j : Job W.State) (w : Face (TableOf W.State)) (lane : LaneEye) (shelf : ShelfEye) (meter : LoadEye)
         → Tied j w lane shelf meter → AllEmpty w.lot → w.worked ≡ more 0 (packets_taken lane.taken) }
+    ensures empty { (j : Job W.State) (w : Face (TableOf W.State)) (lane : LaneEye) (shelf : ShelfEye) (meter : LoadEye)
+        → Tied j w lane shelf meter → w.lot.waiting ≡ [] → AllEmpty w.lot }
+    ensures whole { (j : Job W.State) (w : Face (TableOf W.State)) (lane : LaneEye) (shelf : ShelfEye) (meter : LoadEye) (rest : List Seen)
+        → Tied j w lane shelf meter → w.took_end ≡ true → LegalCells j.packets w.run.key w.run.buckets (lane.taken ++ rest) → rest ≡ [] }
+{}
+
+/// Unless it is short, a table has keys of its bucket alone: in a worker's hand, and on the shelf.
+pub fn tables_have_their_keys<W: FlowWork>()
+    ensures { (j : Job W.State) (r : Run) (b : ℕ) (t : TableOf W.State) → Stands j r b t → t.short ≡ false → All (λ (e : FlowKey × W.State). HasBucket r b e.0) t.flows }
 {}
 
 /// Over ends that tell what they hold, a turn is the event that is due for its core in the handover
@@ -61,4 +80,36 @@ pub fn workers_share_a_shelf<W: FlowWork>()
         → Shows (after m (event_of c turn)) d (record u { shelf = t.shelf; shelf_now = t.shelf_now }) }
     ensures tied { (j : Job W.State) (w : Face (TableOf W.State)) (lane : LaneEye) (shelf shelf' : ShelfEye) (meter : LoadEye)
         → Tied j w lane shelf meter → SameRun shelf shelf' → KeepsClaims w shelf shelf' → Tied j w lane shelf' meter }
+{}
+
+/// What one worker's turn leaves of the others on one thread, where all are cores of one state in
+/// which each table is in one hand: they stay tied to shelf and meter as these are then, and the
+/// meter tells their numbers.
+pub fn workers_leave_others<W: FlowWork>()
+    ensures tied { (j : Job W.State) (m : MachineView) (c d : ℕ) (s t u : Scene (TableOf W.State)) (turn : WorkerTurn)
+        → Tied j s.worker s.lane s.shelf s.meter → Shows m c s → IsTurn j s turn t → Shows m d u → d ≢ c → IsHeldOnce m
+        → Tied j u.worker u.lane s.shelf s.meter → Tied j u.worker u.lane t.shelf t.meter }
+    ensures told { (j : Job W.State) (s t : Scene (TableOf W.State)) (turn : WorkerTurn) (d n : ℕ)
+        → IsTurn j s turn t → d ≢ s.worker.core → Tells s.meter_now d n → Tells t.meter_now d n }
+{}
+
+/// What a worker has worked is what it noted last, what a meter of its own core's tells, and what
+/// its core of the handover machine has worked.
+pub fn workers_note_all<W: FlowWork>()
+    ensures noted { (j : Job W.State) (s t : Scene (TableOf W.State)) (turn : WorkerTurn)
+        → Tied j s.worker s.lane s.shelf s.meter → IsTurn j s turn t → noted_at s.worker.core s.meter ≡ s.worker.worked → noted_at t.worker.core t.meter ≡ t.worker.worked }
+    ensures told { (j : Job W.State) (s t : Scene (TableOf W.State)) (turn : WorkerTurn)
+        → IsTurn j s turn t → Tells s.meter_now s.worker.core s.worker.worked → Tells t.meter_now t.worker.core t.worker.worked }
+    ensures worked { (j : Job W.State) (m : MachineView) (c : ℕ) (s : Scene (TableOf W.State))
+        → Tied j s.worker s.lane s.shelf s.meter → Shows m c s → s.worker.worked ≡ more 0 (worked_of (core_at m c)) }
+{}
+
+/// What the dispatcher does leaves each worker tied and shown: it sends on the worker's lane, looks
+/// at words, and reads the meter.
+pub fn workers_bear_the_dispatcher<W: FlowWork>()
+    ensures tied { (j : Job W.State) (w : Face (TableOf W.State)) (lane lane' : LaneEye) (shelf shelf' : ShelfEye) (meter meter' : LoadEye)
+        → Tied j w lane shelf meter → SameTaken lane lane' → SameClaims shelf shelf' → SameNoted w.core meter meter' → Tied j w lane' shelf' meter' }
+    ensures shown { (m : MachineView) (d : ℕ) (u : Scene (TableOf W.State)) (eye : LaneEye) (xs : List Seen) (event : Event) (h : Shows m d u)
+        → ¬ (IsOfWorker event) → map plain xs ≡ stream d (posts_by m event) → eye.taken ≡ u.lane.taken
+        → Shows (step m event) d (record u { lane = eye; lane_now = Some (lane (h.lane.items ++ xs) h.lane.room) }) }
 {}

@@ -11,9 +11,11 @@
 
 mod act;
 mod claim;
+mod custody_laws;
 mod desk;
 mod give;
 mod laws;
+mod passed;
 mod release;
 mod slot;
 mod state;
@@ -24,7 +26,11 @@ mod turn;
 mod worker;
 mod worker_turn;
 
-pub use laws::{turns_are_events, workers_keep_order, workers_share_a_shelf};
+pub use custody_laws::{claims_are_words, custodies_are_stretches, ends_hold_what_workers_have};
+pub use laws::{
+    tables_have_their_keys, turns_are_events, workers_bear_the_dispatcher, workers_keep_order,
+    workers_leave_others, workers_note_all, workers_share_a_shelf,
+};
 pub use slot::Slot;
 pub use worker::Worker;
 pub use worker_turn::WorkerTurn;

@@ -1,4 +1,5 @@
-use Rattle.worker_loop.proofs.Promises.{behind_mark_or_end, all_worked, ended_exactly}
+use Rattle.worker_loop.proofs.Promises.{behind_mark_or_end, all_worked, all_taken, ended_exactly}
+use Rattle.worker_loop.proofs.InLine.{line_empty}
 use Rattle.worker_loop.proofs.laws.workers_keep_order.Goals as goal
 
 pub returns-clause-released : goal.returns-clause-released
@@ -9,3 +10,9 @@ returns-clause-ended g c = ended_exactly
 
 pub returns-clause-worked : goal.returns-clause-worked
 returns-clause-worked g c = all_worked
+
+pub returns-clause-empty : goal.returns-clause-empty
+returns-clause-empty g c = λ j w lane shelf meter tied. line_empty w.lot tied.line
+
+pub returns-clause-whole : goal.returns-clause-whole
+returns-clause-whole g c = all_taken
