@@ -13,6 +13,7 @@ mod command;
 mod given;
 mod key_text;
 mod kind;
+mod limit_laws;
 mod limits;
 mod look;
 mod mode;
@@ -32,6 +33,7 @@ mod word_fault;
 mod work_text;
 
 pub use command::Command;
+pub use limit_laws::limits_are_stated;
 pub use limits::{MOST_COUNT, MOST_DIGITS, MOST_NUMBER, MOST_PLACES};
 pub use mode::Mode;
 pub use option_name::OptionName;

@@ -1,0 +1,114 @@
+ghost use Rattle.std.specs.Prelude.{◌≡◌, ℕ, map, IfOk, Option, List, []};
+ghost use Rattle.pcap_reader.specs.Reading.{Reading};
+ghost use Rattle.core_queue.specs.declared.eye.LaneEye.{LaneEye};
+ghost use Rattle.handover_words.specs.declared.eye.ShelfEye.{ShelfEye};
+ghost use Rattle.load_meter.specs.declared.eye.LoadEye.{LoadEye};
+ghost use Rattle.packet_fields.specs.declared.packet.PacketInfo.{PacketInfo};
+ghost use Rattle.dispatch_loop.specs.Accepted.{IsAccepted};
+ghost use Rattle.dispatch_loop.specs.Terms.{terms_of};
+ghost use Rattle.dispatch_loop.specs.Past.{past};
+ghost use Rattle.dispatch_loop.specs.Scene.{scene, outs};
+ghost use Rattle.dispatch_loop.specs.Tied.{Tied};
+ghost use Rattle.dispatch_loop.specs.Rules.{IsTurn, OnlyMeets};
+ghost use Rattle.dispatch_loop.specs.Stays.{StaysTied, IsTied};
+ghost use Rattle.dispatch_loop.specs.Fresh.{fresh_face, AreFresh};
+
+use crate::state::State;
+use crate::turn::turn_of;
+use crate::{DispatcherTurn, Options};
+use core_queue::LaneOut;
+use handover_words::{Shelf, Shelved};
+use indirection::Journal;
+use load_meter::ReadLoad;
+use packet_fields::RunName;
+use packet_pool::Pool;
+use pcap_reader::Reader;
+use rss_base::{NoMemory, Source};
+use std::alloc::Global;
+use std::marker::Model;
+
+/// The dispatcher of a run: it reads packets, sends each to the core that owns its bucket, and
+/// moves buckets. Which packets it sent is held by nobody: the clauses of its turns speak of each
+/// list of packets that its journal and its lanes go with.
+#[derive(Drop)]
+pub struct Dispatcher {
+    state: State,
+}
+
+impl Model for Dispatcher {
+    ghost use Rattle.dispatch_loop.specs.Face.{Face};
+    ghost use Rattle.dispatch_loop.specs.Sends.{IsLoneLink};
+    ghost use Rattle.dispatch_loop.specs.Views.{face_of, IsFit};
+
+    ghost Value = { Face };
+
+    ghost view = { λ d. face_of d.state };
+
+    ghost invariant = { λ d. IsFit d.state × IsLoneLink d.state.spare };
+}
+
+impl Dispatcher {
+    /// A dispatcher with these options. It takes the memory for all orders of the journal.
+    pub fn new(alloc: Global, options: &Options) -> Result<Dispatcher, NoMemory>
+        requires { IsAccepted options.now }
+        ensures fresh { IfOk result (λ d. d ≡ fresh_face (terms_of options.now)) }
+        ensures tied { IfOk result (λ d. (packets : Option (List PacketInfo)) (bytes : Option (List ℕ)) (lanes : List LaneEye) (shelf : ShelfEye) (meter : LoadEye) (reader : Reading) (left : Option (List ℕ))
+            → AreFresh packets bytes (terms_of options.now) lanes shelf meter reader left → Tied packets (past bytes []) d lanes shelf meter reader left) }
+    {
+        let state = State::new(alloc, options)?;
+        Ok(Dispatcher { state })
+    }
+
+    /// Does the first of these that is due: the round of this position, which goes into the
+    /// journal; the next of its proposals, and then of the orders of this position; the next
+    /// packet; an End, once the stream has ended; nothing, once each core got its End. A
+    /// dispatcher that can't note a round for want of memory makes none from then on, goes on with
+    /// the turn, and is [`Dispatcher::short`].
+    pub fn turn<
+        N: RunName,
+        S: Source,
+        LO: LaneOut<N>,
+        T: Shelved<N>,
+        H: Shelf<T, N>,
+        P: Pool,
+        M: ReadLoad,
+    >(
+        &mut self,
+        reader: &mut Reader,
+        source: &mut S,
+        lanes: &mut [LO],
+        shelf: &mut H,
+        pool: &mut P,
+        meter: &mut M,
+    ) -> DispatcherTurn
+        requires { IsTied N.packets (scene self.old (outs (map LO.eye lanes.old) (map LO.now lanes.old) (P.eye pool.old) (P.now pool.old)) (H.eye shelf.old) (H.now shelf.old) (M.eye meter.old) (M.now meter.old) reader.old (S.left source.old) (S.faults source.old)) }
+        ensures tied { StaysTied N.packets result (scene self.old (outs (map LO.eye lanes.old) (map LO.now lanes.old) (P.eye pool.old) (P.now pool.old)) (H.eye shelf.old) (H.now shelf.old) (M.eye meter.old) (M.now meter.old) reader.old (S.left source.old) (S.faults source.old)) (scene self.new (outs (map LO.eye lanes.new) (map LO.now lanes.new) (P.eye pool.new) (P.now pool.new)) (H.eye shelf.new) (H.now shelf.new) (M.eye meter.new) (M.now meter.new) reader.new (S.left source.new) (S.faults source.new)) }
+        ensures rule { IsTurn (scene self.old (outs (map LO.eye lanes.old) (map LO.now lanes.old) (P.eye pool.old) (P.now pool.old)) (H.eye shelf.old) (H.now shelf.old) (M.eye meter.old) (M.now meter.old) reader.old (S.left source.old) (S.faults source.old)) result (scene self.new (outs (map LO.eye lanes.new) (map LO.now lanes.new) (P.eye pool.new) (P.now pool.new)) (H.eye shelf.new) (H.now shelf.new) (M.eye meter.new) (M.now meter.new) reader.new (S.left source.new) (S.faults source.new)) }
+        ensures homes { (map LO.home lanes.new ≡ map LO.home lanes.old) × (P.home pool.new ≡ P.home pool.old) × (H.home shelf.new ≡ H.home shelf.old) × (M.home meter.new ≡ M.home meter.old) }
+        ensures shelf { OnlyMeets (H.eye shelf.old) (H.eye shelf.new) }
+        ensures origin { S.origin source.new ≡ S.origin source.old }
+    {
+        turn_of::<N, S, LO, T, H, P, M>(&mut self.state, reader, source, lanes, shelf, pool, meter)
+    }
+
+    /// The journal so far.
+    pub fn journal(&self) -> &Journal
+        ensures { result.now ≡ self.now.journal }
+    {
+        &self.state.journal
+    }
+
+    /// The journal, handed over.
+    pub fn into_journal(self) -> Journal
+        ensures { result ≡ self.journal }
+    {
+        self.state.journal
+    }
+
+    /// Whether memory was refused to the journal, which isn't lawful then.
+    pub fn short(&self) -> bool
+        ensures { result ≡ self.now.short }
+    {
+        self.state.rounds.short
+    }
+}
