@@ -1,0 +1,13 @@
+pub mod Serial
+pub mod Rows
+pub mod Lines
+pub mod Floor
+pub mod Desk
+pub mod At
+pub mod Goes
+pub mod Custody
+pub mod Refused
+pub mod OneTable
+pub mod Sweeps
+pub mod Opening
+pub mod Ends

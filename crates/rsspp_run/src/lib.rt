@@ -1,0 +1,22 @@
+//! Runs of a dispatcher and its workers: on one thread, as sweeps over all parties.
+#![tactic(auto)]
+
+mod closing;
+mod crew;
+mod custody_laws;
+mod fold;
+mod laws;
+mod limits;
+mod run_end;
+mod serial;
+mod start;
+mod sweep;
+
+pub use custody_laws::{logs_are_the_custody, notes_have_the_stints};
+pub use fold::one_thread;
+pub use laws::{
+    dispatchers_tell_the_run, dispatchers_turns_are_the_runs, no_sweep_is_idle,
+    workers_turns_are_the_runs,
+};
+pub use run_end::{RunEnd, RunFault};
+pub use serial::run_serial;
