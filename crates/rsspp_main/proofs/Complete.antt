@@ -19,8 +19,9 @@ use Rattle.traffic_gen.specs.Traffic.{traffic}
 use Rattle.rsspp_main.specs.declared.fault.TopFault.{TopFault}
 use Rattle.rsspp_main.specs.declared.fault.TopFault.TheVariants.{Words, Capture, Line, ReadFault, WriteFault, NoMemory, TooMany}
 use Rattle.rsspp_main.specs.Answers.{Answers, Does, ReadsCapture, fault_of_word}
-use Rattle.rsspp_main.specs.Gather.{Accepts}
-use Rattle.rsspp_main.specs.Listing.{listing, BeginsWith, ExplainsListing}
+use Rattle.pcap_reader.specs.Taken.{BeginsWith}
+use Rattle.rsspp_main.specs.Gather.{Accepts, StopsWith}
+use Rattle.rsspp_main.specs.Listing.{listing, ExplainsListing}
 use Rattle.rsspp_main.specs.Notes.{Says}
 use Rattle.rsspp_main.specs.Plan.{ExplainsPlan}
 use Rattle.rsspp_main.specs.Run.{Ends, Explains, ExplainsText, Untouched, report_by}
@@ -49,16 +50,31 @@ Tells limit bytes old new (Some WriteFault) = EndsStream limit bytes stream.Whol
 Tells limit bytes old new (Some NoMemory) = Unit {0}
 Tells limit bytes old new (Some (TooMany n)) = EndsStream limit bytes stream.TooMany
 
+-- the end of the stream where the reading stopped at a break, and at a record too many
+broken_ends : (limit : ℕ) (left now : Option (List ℕ)) (bytes : List ℕ) (records : List Captured) (e : Break) → left ≡ Some bytes → StopsWith limit left now records (Capture e) → EndsStream limit bytes (stream.Broken e)
+broken_ends limit left now bytes records e told s = (records, known left bytes (λ b. Reads b records (Breaks e)) told s.1, s.0)
+
+many_end : (limit n : ℕ) (left now : Option (List ℕ)) (bytes : List ℕ) (records : List Captured) → left ≡ Some bytes → StopsWith limit left now records (TooMany n) → EndsStream limit bytes stream.TooMany
+many_end limit n left now bytes records told s =
+    let next = s.2.0 in
+    let first = records ++ next ∷ [] in
+    let whole = known left bytes (λ b. BeginsWith b first) told s.2.1 in (
+      first ++ whole.0,
+      whole.1,
+      whole.2,
+      omega (arith, s.1, length-append first whole.0, length-append records (next ∷ [])),
+    )
+
 tells : (limit : ℕ) (text : List PacketInfo → List ℕ) (old new : Ends) (bytes : List ℕ) → old.left ≡ Some bytes → (fault : Option TopFault) → Explains limit text old new fault → Tells limit bytes old new fault
 unfolding Tells
 tells limit text old new bytes told None h = accepted_ends limit old.left bytes told h.0 h.1
 tells limit text old new bytes told (Some (Words w)) h = h
 tells limit text old new bytes told (Some (Line k)) h = h
-tells limit text old new bytes told (Some (Capture e)) h = known old.left bytes (λ b. EndsStream limit b (stream.Broken e)) told h.0
-tells limit text old new bytes told (Some ReadFault) h = λ quiet. quiet h.0
-tells limit text old new bytes told (Some WriteFault) h = (accepted_ends limit old.left bytes told h.1.0 h.1.1, λ calm. calm h.0)
+tells limit text old new bytes told (Some (Capture e)) h = broken_ends limit old.left new.left bytes h.0 e told h.1
+tells limit text old new bytes told (Some ReadFault) h = λ quiet. quiet h.3
+tells limit text old new bytes told (Some WriteFault) h = (accepted_ends limit old.left bytes told h.0.0 h.0.1, λ calm. calm h.1)
 tells limit text old new bytes told (Some NoMemory) h = tt
-tells limit text old new bytes told (Some (TooMany n)) h = known old.left bytes (λ b. EndsStream limit b stream.TooMany) told h.0.1
+tells limit text old new bytes told (Some (TooMany n)) h = many_end limit n old.left new.left bytes h.0 told h.1
 
 -- the same of a listing
 tells_listing : (limit : ℕ) (text : List PacketInfo → List ℕ) (old new : Ends) (bytes : List ℕ) → old.left ≡ Some bytes → (fault : Option TopFault) → ExplainsListing limit text old new fault → Tells limit bytes old new fault
@@ -66,18 +82,11 @@ unfolding Tells
 tells_listing limit text old new bytes told None h = accepted_ends limit old.left bytes told h.0 h.1
 tells_listing limit text old new bytes told (Some (Words w)) h = h
 tells_listing limit text old new bytes told (Some (Line k)) h = h
-tells_listing limit text old new bytes told (Some (Capture e)) h = (h.0, known old.left bytes (λ b. Reads b h.0 (Breaks e)) told h.2, h.1)
-tells_listing limit text old new bytes told (Some ReadFault) h = λ quiet. quiet h.0
-tells_listing limit text old new bytes told (Some WriteFault) h = (accepted_ends limit old.left bytes told h.1 h.2, λ calm. calm h.0)
+tells_listing limit text old new bytes told (Some (Capture e)) h = broken_ends limit old.left new.left bytes h.0 e told h.1
+tells_listing limit text old new bytes told (Some ReadFault) h = λ quiet. quiet h.3
+tells_listing limit text old new bytes told (Some WriteFault) h = (accepted_ends limit old.left bytes told h.0 h.1, λ calm. calm h.4)
 tells_listing limit text old new bytes told (Some NoMemory) h = tt
-tells_listing limit text old new bytes told (Some (TooMany n)) h =
-    let next = known old.left bytes (λ b. (next : Captured) × BeginsWith b (h.1 ++ next ∷ [])) told h.3 in
-    let first = h.1 ++ next.0 ∷ [] in (
-      first ++ next.1.0,
-      next.1.1,
-      next.1.2,
-      omega (arith, h.2, length-append first next.1.0, length-append h.1 (next.0 ∷ [])),
-    )
+tells_listing limit text old new bytes told (Some (TooMany n)) h = many_end limit n old.left new.left bytes h.0 told h.1
 
 done_by : (limit : ℕ) (old new : Ends) (bytes : List ℕ) → EndsStream limit bytes stream.Whole → NoneFailed old.read_faults new.read_faults → NoneFailed old.write_faults new.write_faults → (fault : Option TopFault) → Tells limit bytes old new fault → (status_of fault ≡ 0) ⊎ (status_of fault ≡ 6)
 unfolding Tells

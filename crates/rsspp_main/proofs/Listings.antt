@@ -1,27 +1,21 @@
 -- A listing through one packet more, and its end.
-use Rattle.std.proofs.Common.{◌≡◌, ℕ, ◌+◌, ◌≤◌, List, [], ◌∷◌, ◌++◌, length, map, refl, sym, ap, subst, ◌∙◌, append_assoc, arith, Bool, true, false, Option, None, Some, IfSome, Result, Ok, Err, MatchResult}
+use Rattle.std.proofs.Common.{◌≡◌, ◌⊎◌, inl, inr, ℕ, ◌+◌, ◌≤◌, List, [], ◌∷◌, ◌++◌, length, map, refl, sym, ap, subst, ◌∙◌, append_assoc, arith, Bool, true, false, None, Some, Result, Ok, Err, MatchResult}
 use Rattle.std.specs.Io.KnownBytes.{IsAtEnd}
 use Rattle.std.proofs.lemmas.List.{append-nil}
 use Rattle.rss_base.specs.Faults.{Rose}
 use Rattle.rss_base.specs.Written.{Gets, GetsFront}
 use Rattle.pcap_reader.specs.declared.fault.ReadError.{ReadError}
 use Rattle.pcap_reader.specs.declared.fault.ReadError.TheVariants as reading
-use Rattle.pcap_reader.specs.Capture.{Captured, Breaks, Reads, HeaderBreaks}
-use Rattle.pcap_reader.specs.declared.reader.Progress.TheVariants.{Going}
-use Rattle.pcap_reader.specs.Reading.{Reading, still, Proceeds}
-use Rattle.pcap_reader.specs.Stream.{Comes, SoFar, HeaderRefused, MayBlame}
-use Rattle.pcap_reader.proofs.Records.{each_reading}
-use Rattle.pcap_reader.proofs.SoFar.{SoFar-begins, SoFar-break}
+use Rattle.pcap_reader.specs.Capture.{Captured}
+use Rattle.pcap_reader.specs.Stream.{MayBlame}
 use Rattle.packet_fields.specs.declared.packet.PacketInfo.{PacketInfo}
 use Rattle.toeplitz.specs.declared.key.Key.{Key}
 use Rattle.rsspp_main.specs.declared.fault.TopFault.{TopFault}
-use Rattle.rsspp_main.specs.declared.fault.TopFault.TheVariants.{WriteFault, TooMany}
-use Rattle.rsspp_main.specs.Gather.{Accepts, top_fault}
-use Rattle.rsspp_main.specs.Listing.{hash_line, listing, listing_from, IsListed, Listed, BeginsWith, ExplainsListing}
-use Rattle.rsspp_main.specs.Packets.{packet_of, packets_in}
-use Rattle.rsspp_main.specs.Run.{Ends}
-use Rattle.std.proofs.Common.{inl}
-use Rattle.rsspp_main.proofs.Gathered.{if_known, advanced, packets_err, OneMore}
+use Rattle.rsspp_main.specs.declared.fault.TopFault.TheVariants.{Words, Capture, Line, ReadFault, WriteFault, NoMemory, TooMany}
+use Rattle.rsspp_main.specs.Gather.{Accepts, MayFail, StopsWith, top_fault}
+use Rattle.rsspp_main.specs.Listing.{hash_line, listing, listing_from, IsListed, Listed, ExplainsListing}
+use Rattle.dispatch_loop.specs.Packets.{packet_of}
+use Rattle.rsspp_main.specs.Run.{Ends, NoReadFailed, Untouched}
 
 listing_from-push : (key : Key) (owners : List ℕ) (n : ℕ) (ps : List PacketInfo) (p : PacketInfo) → listing_from key owners n (ps ++ p ∷ []) ≡ listing_from key owners n ps ++ hash_line key owners (n + length ps) p
 listing_from-push key owners n [] p = let zero_more : n ≡ n + 0 = omega arith in append-nil (hash_line key owners n p) ∙ ap (λ m. hash_line key owners m p) zero_more
@@ -84,6 +78,11 @@ line_cut before now old new line front later rose = record {
 pub ok_same : {E : Type 0} (a b : Bool) → ◌≡◌ {A = Result Bool E} (Ok a) (Ok b) → a ≡ b
 ok_same a b e = cc
 
+-- a line that was made isn't skipped
+pub not_skipped : {E P : Type 0} {e : E} (failed : Bool) → (failed ≡ true → (◌≡◌ {A = Result Bool E} (Err e) (Ok true)) × P) → failed ≡ false
+not_skipped false skips = refl
+not_skipped true skips = absurd (let never = (skips refl).0 in cc)
+
 -- one line more
 pub listed-push : (f0 f1 f2 : ℕ) (h0 h1 h2 : List ℕ → Type 0) (failed now : Bool) (text line : List ℕ) → IsListed f0 f1 h0 h1 failed text → (failed ≡ false → IsListed f1 f2 h1 h2 now line) → (failed ≡ true → (now ≡ true) × (f2 ≡ f1) × Gets h1 h2 []) → IsListed f0 f2 h0 h2 now (text ++ line)
 listed-push f0 f1 f2 h0 h1 h2 false now text line so_far next skip =
@@ -114,44 +113,29 @@ listed_of old new false text l = record { front = l.front; whole = λ calm. l.wh
 listed_of old new true text l = record { front = l.front; whole = λ calm. absurd (calm (l.rose refl)) }
 
 -- the end of a capture that was read whole
-pub finished : (limit : ℕ) (text : List PacketInfo → List ℕ) (old new : Ends) (records : List Captured) (failed : Bool) (r : Result (Unit {0}) TopFault) → Accepts limit old.left records → IsAtEnd new.left → IsListed old.write_faults new.write_faults old.may_hold new.may_hold failed (text (map packet_of records)) → (failed ≡ true → r ≡ Err WriteFault) → (failed ≡ false → r ≡ Ok tt) → MatchResult r (λ _. ExplainsListing limit text old new None) (λ fault. ExplainsListing limit text old new (Some fault))
-finished limit text old new records false r accepted end l bad good = rw (good refl) (records, accepted, end, l.whole refl)
-finished limit text old new records true r accepted end l bad good = rw (bad refl) (l.rose refl, records, accepted, end, l.front)
+pub finished : (limit : ℕ) (text : List PacketInfo → List ℕ) (old new : Ends) (records : List Captured) (failed : Bool) (r : Result (Unit {0}) TopFault) → Accepts limit old.left records → IsAtEnd new.left → NoReadFailed old new → IsListed old.write_faults new.write_faults old.may_hold new.may_hold failed (text (map packet_of records)) → (failed ≡ true → r ≡ Err WriteFault) → (failed ≡ false → r ≡ Ok tt) → MatchResult r (λ _. ExplainsListing limit text old new None) (λ fault. ExplainsListing limit text old new (Some fault))
+finished limit text old new records false r accepted end quiet l bad good = rw (good refl) (records, accepted, end, l.whole refl, record { reads = quiet; writes = l.calm refl })
+finished limit text old new records true r accepted end quiet l bad good = rw (bad refl) (records, accepted, end, l.front, l.rose refl, quiet)
 
--- any bytes begin with no records
-pub begins_none : (left : Option (List ℕ)) → IfSome left (λ bytes. BeginsWith bytes [])
-begins_none None = tt
-begins_none (Some bytes) = let r = each_reading bytes in (r.0, r.1, r.2)
+-- a reading that stopped behind these records
+pub stopped : (limit : ℕ) (text : List PacketInfo → List ℕ) (old new : Ends) (fault : TopFault) (records : List Captured) (failed : Bool) → StopsWith limit old.left new.left records fault → IsListed old.write_faults new.write_faults old.may_hold new.may_hold failed (text (map packet_of records)) → MayFail fault old.read_faults new.read_faults → ExplainsListing limit text old new (Some fault)
+stopped limit text old new (Capture e) records failed s l may = (records, s, listed_of old new failed (text (map packet_of records)) l, may)
+stopped limit text old new (TooMany n) records failed s l may = (records, s, listed_of old new failed (text (map packet_of records)) l, may)
+stopped limit text old new ReadFault records failed s l may = (records, s, listed_of old new failed (text (map packet_of records)) l, may)
+stopped limit text old new NoMemory records failed s l may = absurd s
+stopped limit text old new WriteFault records failed s l may = absurd s
+stopped limit text old new (Line k) records failed s l may = absurd s
+stopped limit text old new (Words w) records failed s l may = absurd s
 
--- a header that is refused, where nothing was written
-pub refused_at_header : (limit : ℕ) (text : List PacketInfo → List ℕ) (old new : Ends) (error : ReadError) → HeaderRefused old.left error → IsListed old.write_faults new.write_faults old.may_hold new.may_hold false (text []) → MayBlame error old.read_faults new.read_faults → ExplainsListing limit text old new (Some (top_fault error))
-refused_at_header limit text old new reading.NoMemory refused l blame = ([], begins_none old.left, l.front)
-refused_at_header limit text old new reading.ReadFault refused l blame = (blame, [], begins_none old.left, listed_of old new false (text []) l)
-refused_at_header limit text old new (reading.Broken e) refused l blame = (
-  [],
-  omega arith,
-  if_known old.left (λ bytes. HeaderBreaks bytes e) (λ bytes. Reads bytes [] (Breaks e)) (λ bytes h. inl (e, refl, refl, h)) refused,
-  listed_of old new false (text []) l,
-  blame,
-)
+-- an error of the reader may be blamed as the fault that it is
+pub may_fail : (error : ReadError) (before now : ℕ) → MayBlame error before now → MayFail (top_fault error) before now
+may_fail reading.NoMemory before now blame = blame
+may_fail reading.ReadFault before now blame = blame
+may_fail (reading.Broken e) before now blame = blame
 
--- an error behind these records
-pub refused_later : (limit : ℕ) (text : List PacketInfo → List ℕ) (old new : Ends) (b n : Option (List ℕ)) (before after : Reading) (a : Result (Option Captured) ReadError) (rs : List Captured) (failed : Bool) (error : ReadError) → Err error ≡ packets_in a → before.progress ≡ Going → Proceeds before after b n a → SoFar old.left before.form rs (still before b) → before.given ≡ length rs → length rs ≤ limit → IsListed old.write_faults new.write_faults old.may_hold new.may_hold failed (text (map packet_of rs)) → MayBlame error old.read_faults new.read_faults → ExplainsListing limit text old new (Some (top_fault error))
-refused_later limit text old new b n before after a rs failed error e going h s given few l blame =
-    by_error error (subst (λ (x : Result (Option Captured) ReadError). Comes before.form before.given (still before b) (still after n) x) (packets_err a error e) (advanced before after b n a going h).comes) blame
-  where
-    by_error : (error : ReadError) → Comes before.form before.given (still before b) (still after n) (Err error) → MayBlame error old.read_faults new.read_faults → ExplainsListing limit text old new (Some (top_fault error))
-    by_error reading.NoMemory comes blame = absurd comes
-    by_error reading.ReadFault comes blame = (blame, rs, SoFar-begins old.left (still before b) before.form rs s, listed_of old new failed (text (map packet_of rs)) l)
-    by_error (reading.Broken x) comes blame = (rs, few, SoFar-break old.left (still before b) before.form rs before.given x s comes given, listed_of old new failed (text (map packet_of rs)) l, blame)
-
--- a record too many
-pub one_too_many : (limit : ℕ) (text : List PacketInfo → List ℕ) (old new : Ends) (n : Option (List ℕ)) (before after : Reading) (rs : List Captured) (p : PacketInfo) (r : Captured) (failed : Bool) → OneMore old.left n before after rs p r → length rs ≡ limit → IsListed old.write_faults new.write_faults old.may_hold new.may_hold failed (text (map packet_of rs)) → new.read_faults ≡ old.read_faults → ExplainsListing limit text old new (Some (TooMany limit))
-one_too_many limit text old new n before after rs p r failed one full l quiet = (
-  refl,
-  rs,
-  full,
-  if_known old.left (λ bytes. BeginsWith bytes (rs ++ r ∷ [])) (λ bytes. (next : Captured) × BeginsWith bytes (rs ++ next ∷ [])) (λ bytes w. (r, w)) (SoFar-begins old.left (still after n) after.form (rs ++ r ∷ []) one.so_far),
-  listed_of old new failed (text (map packet_of rs)) l,
-  quiet,
-)
+-- no record at all
+pub none_listed : (limit : ℕ) (text : List PacketInfo → List ℕ) (old new : Ends) (fault : TopFault) (Before : Type 0)
+    → ((fault ≡ NoMemory) × Before) ⊎ StopsWith limit old.left new.left [] fault
+    → (Before → Untouched old new) → IsListed old.write_faults new.write_faults old.may_hold new.may_hold false (text []) → MayFail fault old.read_faults new.read_faults → ExplainsListing limit text old new (Some fault)
+none_listed limit text old new fault Before (inl lack) untouched l may = subst (λ f. ExplainsListing limit text old new (Some f)) (sym lack.0) (inl (untouched lack.1))
+none_listed limit text old new fault Before (inr s) untouched l may = stopped limit text old new fault [] false s l may

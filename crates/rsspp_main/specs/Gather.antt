@@ -1,11 +1,10 @@
 -- What comes of reading a whole capture, by the bytes that its source had left.
-use Rattle.std.specs.Prelude.{◌≡◌, ◌≤◌, ℕ, List, length, Option, IfSome, Result, MatchResult, ⊤}
+use Rattle.std.specs.Prelude.{◌≡◌, ◌≤◌, ℕ, List, [], ◌∷◌, ◌++◌, length, Option, IfSome, Result, MatchResult}
 use Rattle.rss_base.specs.Faults.{Rose}
 use Rattle.pcap_reader.specs.declared.fault.ReadError.{ReadError}
 use Rattle.pcap_reader.specs.declared.fault.ReadError.TheVariants as reading
-use Rattle.pcap_reader.specs.Capture.{Captured, IsCapture}
-use Rattle.pcap_reader.specs.StreamEnd.{EndsStream, StreamEnd}
-use Rattle.pcap_reader.specs.StreamEnd as stream
+use Rattle.pcap_reader.specs.Capture.{Captured, Breaks, IsCapture, Reads}
+use Rattle.pcap_reader.specs.Taken.{BeginsWith, TakesNoMore, TakesOnly}
 use Rattle.flow_report.specs.declared.fault.ReportFault.{ReportFault}
 use Rattle.flow_report.specs.declared.fault.ReportFault.TheVariants as writing
 use Rattle.rsspp_main.specs.declared.fault.TopFault.{TopFault}
@@ -21,22 +20,24 @@ top_fault (reading.Broken e) = Capture e
 abbrev pub Accepts : ℕ → Option (List ℕ) → List Captured → Type 0
 Accepts limit left records = (length records ≤ limit) × IfSome left (λ bytes. IsCapture bytes records)
 
--- the capture is refused with this fault: its stream ends so
-abbrev pub Refuses : ℕ → Option (List ℕ) → TopFault → Type 0
-Refuses limit left (Capture e) = IfSome left (λ bytes. EndsStream limit bytes (stream.Broken e))
-Refuses limit left (TooMany n) = (n ≡ limit) × IfSome left (λ bytes. EndsStream limit bytes stream.TooMany)
-Refuses limit left ReadFault = ⊤
-Refuses limit left NoMemory = ⊤
-Refuses limit left WriteFault = ⊥
-Refuses limit left (Line k) = ⊥
-Refuses limit left (Words w) = ⊥
+-- a record more stands behind these, and the reading took no more than all of them and what is read ahead
+abbrev pub GoesOn : Option (List ℕ) → Option (List ℕ) → List Captured → Type 0
+GoesOn left now records = (next : Captured) × IfSome left (λ bytes. BeginsWith bytes (records ++ next ∷ [])) × TakesNoMore left now (records ++ next ∷ [])
+
+-- the reading of a capture stopped behind these records, with this fault, and read no further
+abbrev pub StopsWith : ℕ → Option (List ℕ) → Option (List ℕ) → List Captured → TopFault → Type 0
+StopsWith limit left now records (Capture e) = (length records ≤ limit) × IfSome left (λ bytes. Reads bytes records (Breaks e)) × TakesNoMore left now records
+StopsWith limit left now records (TooMany n) = (n ≡ limit) × (length records ≡ limit) × GoesOn left now records
+StopsWith limit left now records ReadFault = (length records ≤ limit) × TakesOnly left now records
+StopsWith limit left now records NoMemory = ⊥
+StopsWith limit left now records WriteFault = ⊥
+StopsWith limit left now records (Line k) = ⊥
+StopsWith limit left now records (Words w) = ⊥
 
 -- a failed read is a read fault, and no other answer of the reading comes after one
 abbrev pub MayFail : TopFault → ℕ → ℕ → Type 0
 MayFail ReadFault before now = Rose before now
-MayFail (Capture e) before now = now ≡ before
-MayFail (TooMany n) before now = now ≡ before
-MayFail _ before now = before ≤ now
+MayFail _ before now = now ≡ before
 
 pub record HasTopCause {T : Type 0} (before now : ℕ) (result : Result T TopFault) : Type 0 where
   pub later : before ≤ now

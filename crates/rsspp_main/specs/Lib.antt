@@ -2,7 +2,6 @@ pub mod Answers
 pub mod Gather
 pub mod Listing
 pub mod Notes
-pub mod Packets
 pub mod Plan
 pub mod Run
 pub mod Status

@@ -1,20 +1,20 @@
 -- The listing of packets' hashes, and what each outcome of its run says.
-use Rattle.std.specs.Prelude.{◌≡◌, ◌≤◌, ◌+◌, ◌%◌, ℕ, List, [], ◌∷◌, ◌++◌, length, map, codes, slice_index, Bool, true, false, Option, None, Some, IfSome}
+use Rattle.std.specs.Prelude.{◌≡◌, ◌⊎◌, ◌<◌, ◌≤◌, ◌+◌, ◌%◌, ℕ, List, [], ◌∷◌, ◌++◌, length, map, codes, slice_index, Bool, true, false, Option, None, Some}
 use Rattle.std.specs.Fmt.{decimal}
 use Rattle.std.specs.Io.KnownBytes.{IsAtEnd}
 use Rattle.rss_base.specs.Faults.{Rose, NoneFailed}
 use Rattle.rss_base.specs.Hex.{hex_text}
 use Rattle.rss_base.specs.Written.{Gets, GetsFront}
-use Rattle.pcap_reader.specs.Capture.{Captured, Ending, Breaks, Reads}
+use Rattle.pcap_reader.specs.Capture.{Captured}
 use Rattle.packet_fields.specs.declared.packet.PacketInfo.{PacketInfo}
 use Rattle.packet_fields.specs.KeyText.{key_text_of}
 use Rattle.toeplitz.specs.declared.key.Key.{Key}
 use Rattle.toeplitz.specs.Packet.{packet_hash}
 use Rattle.rsspp_main.specs.declared.fault.TopFault.{TopFault}
 use Rattle.rsspp_main.specs.declared.fault.TopFault.TheVariants.{Words, Capture, Line, ReadFault, WriteFault, NoMemory, TooMany}
-use Rattle.rsspp_main.specs.Gather.{Accepts}
-use Rattle.rsspp_main.specs.Packets.{packet_of}
-use Rattle.rsspp_main.specs.Run.{Ends}
+use Rattle.rsspp_main.specs.Gather.{Accepts, GoesOn, StopsWith}
+use Rattle.dispatch_loop.specs.Packets.{packet_of}
+use Rattle.rsspp_main.specs.Run.{Ends, NoCallFailed, NoReadFailed, Untouched}
 
 -- the bucket of a packet, and the core that owns it
 abbrev pub bucket_in : Key → List ℕ → PacketInfo → ℕ
@@ -47,23 +47,21 @@ pub record Listed (old new : Ends) (text : List ℕ) : Type 0 where
   pub front : GetsFront old.may_hold new.may_hold text
   pub whole : NoneFailed old.write_faults new.write_faults → Gets old.may_hold new.may_hold text
 
--- a capture begins with these whole records
-abbrev pub BeginsWith : List ℕ → List Captured → Type 0
-BeginsWith bytes records = (more : List Captured) × (ending : Ending) × Reads bytes (records ++ more) ending
-
 -- what each outcome says of a run that lists the packets of a capture as they come; None is the outcome of a run that was done
 abbrev pub ExplainsListing : ℕ → (List PacketInfo → List ℕ) → Ends → Ends → Option TopFault → Type 0
 ExplainsListing limit text old new None =
-    (records : List Captured) × Accepts limit old.left records × IsAtEnd new.left × Gets old.may_hold new.may_hold (text (map packet_of records))
+    (records : List Captured) × Accepts limit old.left records × IsAtEnd new.left × Gets old.may_hold new.may_hold (text (map packet_of records)) × NoCallFailed old new
 ExplainsListing limit text old new (Some (Capture e)) =
-    (records : List Captured) × (length records ≤ limit) × IfSome old.left (λ bytes. Reads bytes records (Breaks e)) × Listed old new (text (map packet_of records)) × (new.read_faults ≡ old.read_faults)
+    (records : List Captured) × StopsWith limit old.left new.left records (Capture e) × Listed old new (text (map packet_of records)) × NoReadFailed old new
 ExplainsListing limit text old new (Some (TooMany n)) =
-    (n ≡ limit) × (records : List Captured) × (length records ≡ limit)
-    × IfSome old.left (λ bytes. (next : Captured) × BeginsWith bytes (records ++ next ∷ [])) × Listed old new (text (map packet_of records)) × (new.read_faults ≡ old.read_faults)
+    (records : List Captured) × StopsWith limit old.left new.left records (TooMany n) × Listed old new (text (map packet_of records)) × NoReadFailed old new
 ExplainsListing limit text old new (Some ReadFault) =
-    Rose old.read_faults new.read_faults × (records : List Captured) × IfSome old.left (λ bytes. BeginsWith bytes records) × Listed old new (text (map packet_of records))
+    (records : List Captured) × StopsWith limit old.left new.left records ReadFault × Listed old new (text (map packet_of records)) × Rose old.read_faults new.read_faults
 ExplainsListing limit text old new (Some WriteFault) =
-    Rose old.write_faults new.write_faults × (records : List Captured) × Accepts limit old.left records × IsAtEnd new.left × GetsFront old.may_hold new.may_hold (text (map packet_of records))
-ExplainsListing limit text old new (Some NoMemory) = (records : List Captured) × IfSome old.left (λ bytes. BeginsWith bytes records) × GetsFront old.may_hold new.may_hold (text (map packet_of records))
+    (records : List Captured) × Accepts limit old.left records × IsAtEnd new.left × GetsFront old.may_hold new.may_hold (text (map packet_of records)) × Rose old.write_faults new.write_faults × NoReadFailed old new
+-- before the first read, or at a record below the limit: the lines of those before it were written
+ExplainsListing limit text old new (Some NoMemory) =
+    Untouched old new
+    ⊎ ((records : List Captured) × (length records < limit) × GoesOn old.left new.left records × Gets old.may_hold new.may_hold (text (map packet_of records)) × NoCallFailed old new)
 ExplainsListing limit text old new (Some (Line k)) = ⊥
 ExplainsListing limit text old new (Some (Words w)) = ⊥

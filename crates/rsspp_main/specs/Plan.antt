@@ -10,7 +10,7 @@ use Rattle.balancer.specs.declared.plan_fault.PlanFault.{PlanFault}
 use Rattle.balancer.specs.declared.plan_fault.PlanFault.TheVariants as planning
 use Rattle.rsspp_main.specs.declared.fault.TopFault.{TopFault}
 use Rattle.rsspp_main.specs.declared.fault.TopFault.TheVariants.{Words, Capture, Line, ReadFault, WriteFault, NoMemory, TooMany}
-use Rattle.rsspp_main.specs.Run.{Ends, Silent}
+use Rattle.rsspp_main.specs.Run.{Ends, NoCallFailed, NoReadFailed, NoWriteFailed, Silent}
 
 -- a fault of a plan, as the fault of the whole
 abbrev pub plan_fault : PlanFault → TopFault
@@ -21,12 +21,12 @@ plan_fault planning.NoMemory = NoMemory
 
 -- None is the outcome of a run that was done: the text spelled an instance and was read to its end, and the output got its plan
 abbrev pub ExplainsPlan : Ends → Ends → Option TopFault → Type 0
-ExplainsPlan old new None = (p : Instance) × Spells old.left p × IsAtEnd new.left × Gets old.may_hold new.may_hold (plan_of p)
-ExplainsPlan old new (Some (Line k)) = IfSome old.left (λ bytes. instance_of bytes ≡ Err k) × (new.read_faults ≡ old.read_faults) × Silent old new
-ExplainsPlan old new (Some ReadFault) = Rose old.read_faults new.read_faults × Silent old new
+ExplainsPlan old new None = (p : Instance) × Spells old.left p × IsAtEnd new.left × Gets old.may_hold new.may_hold (plan_of p) × NoCallFailed old new
+ExplainsPlan old new (Some (Line k)) = IfSome old.left (λ bytes. instance_of bytes ≡ Err k) × Silent old new × NoCallFailed old new
+ExplainsPlan old new (Some ReadFault) = Rose old.read_faults new.read_faults × Silent old new × NoWriteFailed old new
 ExplainsPlan old new (Some WriteFault) =
-    Rose old.write_faults new.write_faults × (p : Instance) × Spells old.left p × IsAtEnd new.left × GetsFront old.may_hold new.may_hold (plan_of p)
-ExplainsPlan old new (Some NoMemory) = Silent old new
+    Rose old.write_faults new.write_faults × (p : Instance) × Spells old.left p × IsAtEnd new.left × GetsFront old.may_hold new.may_hold (plan_of p) × NoReadFailed old new
+ExplainsPlan old new (Some NoMemory) = Silent old new × NoCallFailed old new
 ExplainsPlan old new (Some (Capture e)) = ⊥
 ExplainsPlan old new (Some (TooMany n)) = ⊥
 ExplainsPlan old new (Some (Words w)) = ⊥

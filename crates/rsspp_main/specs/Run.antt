@@ -13,8 +13,8 @@ use Rattle.flow_work.specs.declared.work_name.WorkName.{WorkName}
 use Rattle.flow_work.specs.declared.work_name.WorkName.TheVariants.{Count, TcpFlags, Gaps, OrderFold}
 use Rattle.rsspp_main.specs.declared.fault.TopFault.{TopFault}
 use Rattle.rsspp_main.specs.declared.fault.TopFault.TheVariants.{Words, Capture, Line, ReadFault, WriteFault, NoMemory, TooMany}
-use Rattle.rsspp_main.specs.Packets.{packet_of}
-use Rattle.rsspp_main.specs.Gather.{Accepts, Refuses}
+use Rattle.dispatch_loop.specs.Packets.{packet_of}
+use Rattle.rsspp_main.specs.Gather.{Accepts, StopsWith}
 use Rattle.flow_report.specs.Report.{report}
 
 -- what the ends of a run tell at one moment: the bytes left and the faults of the source, the faults of the output and what it may hold
@@ -31,22 +31,16 @@ ends left read_faults write_faults may_hold = record { left = left; read_faults 
 abbrev pub Silent : Ends → Ends → Type 0
 Silent old new = (bytes : List ℕ) → old.may_hold bytes → new.may_hold bytes
 
--- the capture was accepted, and a front of its report was written
-abbrev pub WroteFront : ℕ → (List PacketInfo → List ℕ) → Ends → Ends → Type 0
-WroteFront limit text old new =
-    (records : List Captured) × Accepts limit old.left records × GetsFront old.may_hold new.may_hold (text (map packet_of records))
+-- no read failed, and no write
+abbrev pub NoReadFailed : Ends → Ends → Type 0
+NoReadFailed old new = new.read_faults ≡ old.read_faults
 
--- what each outcome says of a run that reports the packets of a capture in this text; None is the outcome of a run that was done
-abbrev pub Explains : ℕ → (List PacketInfo → List ℕ) → Ends → Ends → Option TopFault → Type 0
-Explains limit text old new None =
-    (records : List Captured) × Accepts limit old.left records × IsAtEnd new.left × Gets old.may_hold new.may_hold (text (map packet_of records))
-Explains limit text old new (Some (Capture e)) = Refuses limit old.left (Capture e) × (new.read_faults ≡ old.read_faults) × Silent old new
-Explains limit text old new (Some (TooMany n)) = Refuses limit old.left (TooMany n) × (new.read_faults ≡ old.read_faults) × Silent old new
-Explains limit text old new (Some ReadFault) = Rose old.read_faults new.read_faults × Silent old new
-Explains limit text old new (Some WriteFault) = Rose old.write_faults new.write_faults × WroteFront limit text old new
-Explains limit text old new (Some NoMemory) = Silent old new ⊎ WroteFront limit text old new
-Explains limit text old new (Some (Line k)) = ⊥
-Explains limit text old new (Some (Words w)) = ⊥
+abbrev pub NoWriteFailed : Ends → Ends → Type 0
+NoWriteFailed old new = new.write_faults ≡ old.write_faults
+
+pub record NoCallFailed (old new : Ends) : Type 0 where
+  pub reads : NoReadFailed old new
+  pub writes : NoWriteFailed old new
 
 -- nothing was read or written, and nothing failed
 pub record Untouched (old new : Ends) : Type 0 where
@@ -55,10 +49,28 @@ pub record Untouched (old new : Ends) : Type 0 where
   pub writes : new.write_faults ≡ old.write_faults
   pub silent : Silent old new
 
+-- the capture was accepted and read to its end, and a front of its report was written
+abbrev pub WroteFront : ℕ → (List PacketInfo → List ℕ) → Ends → Ends → Type 0
+WroteFront limit text old new =
+    (records : List Captured) × Accepts limit old.left records × IsAtEnd new.left × GetsFront old.may_hold new.may_hold (text (map packet_of records))
+
+-- what each outcome says of a run that reports the packets of a capture in this text; None is the outcome of a run that was done
+abbrev pub Explains : ℕ → (List PacketInfo → List ℕ) → Ends → Ends → Option TopFault → Type 0
+Explains limit text old new None =
+    (records : List Captured) × Accepts limit old.left records × IsAtEnd new.left × Gets old.may_hold new.may_hold (text (map packet_of records)) × NoCallFailed old new
+Explains limit text old new (Some (Capture e)) = (records : List Captured) × StopsWith limit old.left new.left records (Capture e) × Silent old new × NoCallFailed old new
+Explains limit text old new (Some (TooMany n)) = (records : List Captured) × StopsWith limit old.left new.left records (TooMany n) × Silent old new × NoCallFailed old new
+Explains limit text old new (Some ReadFault) =
+    (records : List Captured) × StopsWith limit old.left new.left records ReadFault × Silent old new × Rose old.read_faults new.read_faults × NoWriteFailed old new
+Explains limit text old new (Some WriteFault) = WroteFront limit text old new × Rose old.write_faults new.write_faults × NoReadFailed old new
+Explains limit text old new (Some NoMemory) = Untouched old new ⊎ (WroteFront limit text old new × NoCallFailed old new)
+Explains limit text old new (Some (Line k)) = ⊥
+Explains limit text old new (Some (Words w)) = ⊥
+
 -- what each outcome says of a run that writes this text and reads nothing
 abbrev pub ExplainsText : List ℕ → Ends → Ends → Option TopFault → Type 0
-ExplainsText text old new None = Gets old.may_hold new.may_hold text × (new.left ≡ old.left) × (new.read_faults ≡ old.read_faults)
-ExplainsText text old new (Some WriteFault) = GetsFront old.may_hold new.may_hold text × Rose old.write_faults new.write_faults × (new.left ≡ old.left) × (new.read_faults ≡ old.read_faults)
+ExplainsText text old new None = Gets old.may_hold new.may_hold text × (new.left ≡ old.left) × NoReadFailed old new × NoWriteFailed old new
+ExplainsText text old new (Some WriteFault) = GetsFront old.may_hold new.may_hold text × Rose old.write_faults new.write_faults × (new.left ≡ old.left) × NoReadFailed old new
 ExplainsText text old new (Some (Capture e)) = ⊥
 ExplainsText text old new (Some (TooMany n)) = ⊥
 ExplainsText text old new (Some ReadFault) = ⊥

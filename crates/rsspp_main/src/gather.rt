@@ -1,15 +1,15 @@
 // All packets of a capture, worked into the tables of their buckets.
-ghost use Rattle.std.specs.Prelude.{◌≡◌, List, length, map, IfOk, IfErr, OnOk};
+ghost use Rattle.std.specs.Prelude.{◌≡◌, ◌⊎◌, List, length, map, IfOk, IfErr, OnOk};
 ghost use Rattle.std.specs.Io.KnownBytes.{IsAtEnd};
 ghost use Rattle.pcap_reader.specs.Capture.{Captured};
-ghost use Rattle.rsspp_main.specs.Gather.{top_fault, Accepts, Refuses, HasTopCause};
-ghost use Rattle.rsspp_main.specs.Packets.{packet_of};
+ghost use Rattle.rsspp_main.specs.Gather.{top_fault, Accepts, StopsWith, HasTopCause};
+ghost use Rattle.dispatch_loop.specs.Packets.{packet_of};
 ghost use Rattle.rsspp_main.specs.Tables.{AreTables};
 
 use crate::TopFault;
-use crate::packets::next_packet;
 use crate::tables::{new_tables, work_packet};
 use bucket_table::BucketTable;
+use dispatch_loop::next_packet;
 use flow_work::FlowWork;
 use indirection::Table;
 use pcap_reader::{ReadError, Reader};
@@ -41,7 +41,8 @@ pub fn gather<S: Source, W: FlowWork>(
     ensures tables { IfOk result (λ tables. (records : List Captured) × Accepts limit (S.left source.old) records
         × AreTables W.opening W.after key.now (length spread.now.owners) (map packet_of records) tables.items) }
     ensures end { OnOk result (IsAtEnd (S.left source.new)) }
-    ensures refused { IfErr result (λ fault. Refuses limit (S.left source.old) fault) }
+    ensures refused { IfErr result (λ fault. ((fault ≡ TopFault.NoMemory) × (source.new ≡ source.old))
+        ⊎ ((records : List Captured) × StopsWith limit (S.left source.old) (S.left source.new) records fault)) }
     ensures cause { HasTopCause (S.faults source.old) (S.faults source.new) result }
     ensures origin { S.origin source.new ≡ S.origin source.old }
 {

@@ -7,7 +7,7 @@ ghost use Rattle.rsspp_main.specs.Run.{ends};
 
 use crate::TopFault;
 use crate::gather::fault_of;
-use crate::packets::next_packet;
+use dispatch_loop::next_packet;
 use indirection::Table;
 use packet_fields::{PacketInfo, key_text};
 use pcap_reader::Reader;
@@ -15,13 +15,14 @@ use rss_base::{NoMemory, Piece, Sink, Source, Text, write_whole};
 use std::alloc::Global;
 use toeplitz::{Key, hash_info};
 
-// No line is longer, in bytes.
-const LONGEST_LINE: [u8; 96] = [b' '; 96];
+// What is taken for a line before the first read. The text keeps it, and a line that needs more
+// takes more as it comes.
+const ROOM_FOR_A_LINE: [u8; 160] = [b' '; 160];
 
 // A text that has taken the memory for a line.
 fn line_text(alloc: Global) -> Result<Text, NoMemory> {
     let mut text = Text::new(alloc);
-    text.push_bytes(&LONGEST_LINE)?;
+    text.push_bytes(&ROOM_FOR_A_LINE)?;
     Ok(text)
 }
 

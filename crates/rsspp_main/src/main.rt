@@ -9,7 +9,7 @@ mod gather;
 mod listing;
 mod modes;
 mod notes;
-mod packets;
+mod process;
 mod run;
 mod tables;
 #[cfg(test)]
@@ -20,6 +20,7 @@ pub use command_words::{Command, Mode, OptionName, WordFault, read_words};
 pub use fault::TopFault;
 pub use modes::{hash_listing, make_capture, plan, report};
 pub use notes::fault_line;
+pub use process::{end_with, fault_of_start, status_behind};
 use rss_base::{OpenGate, StdSink, StdSource};
 use std::env;
 use std::io::{self, BufWriter};
@@ -44,29 +45,16 @@ fn status(rt: &HostRuntime) -> io::Result<u8> {
     let mut notes = StdSink::new(rt.stderr());
     let alloc = rt.alloc();
     let status = rsspp(alloc, &words, &mut source, &mut out, &mut notes, &OpenGate);
-    if out.flush().is_err() && status == 0 {
-        let fault = TopFault::WriteFault;
-        let _ = fault_line(&fault, &mut notes);
-        return Ok(fault.status());
-    }
-    Ok(status)
-}
-
-// The fault of a run that couldn't begin: words that aren't UTF-8 are refused, and else memory was.
-fn fault_of_start(error: &io::Error) -> TopFault {
-    match error.kind() {
-        io::ErrorKind::InvalidData => TopFault::Words(WordFault::Words),
-        _ => TopFault::NoMemory,
-    }
+    let handed = out.flush();
+    Ok(status_behind(status, handed, &mut notes))
 }
 
 fn main(rt: HostRuntime) -> ExitCode {
     match status(&rt) {
         Ok(status) => ExitCode::from(status),
         Err(error) => {
-            let fault = fault_of_start(&error);
-            let _ = fault_line(&fault, &mut StdSink::new(rt.stderr()));
-            ExitCode::from(fault.status())
+            let fault = fault_of_start(error.kind());
+            ExitCode::from(end_with(&fault, &mut StdSink::new(rt.stderr())))
         }
     }
 }

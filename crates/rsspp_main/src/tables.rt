@@ -1,5 +1,5 @@
 // One flow table for each bucket, all on the caller's thread.
-ghost use Rattle.std.specs.Prelude.{◌≡◌, ◌<◌, ◌++◌, ◌∷◌, [], List, ℕ, length, false, All, IfOk};
+ghost use Rattle.std.specs.Prelude.{◌≡◌, ◌<◌, ◌++◌, ◌∷◌, [], List, ℕ, length, true, false, All, Any, IfOk};
 ghost use Rattle.packet_fields.specs.declared.packet.PacketInfo.{PacketInfo};
 ghost use Rattle.rsspp_main.specs.Tables.{AreTables};
 
@@ -54,7 +54,8 @@ pub fn work_packet<W: FlowWork>(
 
 /// Whether memory was refused to one of the tables.
 pub fn is_any_short<W: FlowWork>(tables: &[BucketTable<W>]) -> bool
-    ensures { result ≡ false → All (λ t. t.short ≡ false) tables.now }
+    ensures none { result ≡ false → All (λ t. t.short ≡ false) tables.now }
+    ensures one { result ≡ true → Any (λ t. t.short ≡ true) tables.now }
 {
     for table in tables {
         if table.short() {

@@ -1,9 +1,12 @@
 // Whole runs over memory ends: worked captures, and calls that fail.
 mod captures;
 mod faults;
+mod flows;
 mod forms;
 mod hashes;
+mod ipv6;
 mod plans;
+mod process;
 mod rows;
 mod words;
 mod works;

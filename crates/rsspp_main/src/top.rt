@@ -1,5 +1,5 @@
 // The top call.
-ghost use Rattle.std.specs.Prelude.{◌≡◌, ◌⊎◌, List, ℕ, Option, None, Some, Ok, Err, map, MatchResult};
+ghost use Rattle.std.specs.Prelude.{◌≡◌, ◌⊎◌, List, ℕ, Option, None, Some, Ok, Err, IsTrue, map, MatchResult};
 ghost use Rattle.std.specs.String.{string_bytes};
 ghost use Rattle.rss_base.specs.Faults.{NoneFailed};
 ghost use Rattle.pcap_reader.specs.StreamEnd.{Whole, Broken, TooMany, EndsStream};
@@ -7,6 +7,7 @@ ghost use Rattle.pcap_reader.specs.declared.fault.Break.{Break};
 ghost use Rattle.balancer.specs.PlanForm.{Instance, instance_of};
 ghost use Rattle.command_words.specs.Ranges.{IsAcceptedCommand};
 ghost use Rattle.command_words.specs.Reading.{command_of};
+ghost use Rattle.command_words.specs.Refusals.{is_refused};
 ghost use Rattle.command_words.specs.declared.command.Command.{Command};
 ghost use Rattle.command_words.specs.declared.mode.Mode.TheVariants.{Make, Plan};
 ghost use Rattle.command_words.specs.declared.word_fault.WordFault.{WordFault};
@@ -67,6 +68,7 @@ fn read_and_run<S: Source, K: Sink>(
         let now = ends (S.left source.new) (S.faults source.new) (K.faults out.new) (K.may_hold out.new) in
         let answers = Answers (command_of (map string_bytes words.now)) before now in
         MatchResult result (λ _. answers None) (λ fault. answers (Some fault)) }
+    ensures look { IsTrue (is_refused (map string_bytes words.now)) → result ≡ Err (TopFault.Words WordFault.Words) }
     ensures origin { S.origin source.new ≡ S.origin source.old }
 {
     match read_words(alloc, words) {
@@ -101,6 +103,9 @@ pub fn rsspp<S: Source, K: Sink, F: Sink, G: Gate + Sync>(
     // Status 2 comes only where the words are refused, and there unless memory runs out.
     ensures words { result ≡ 2 → (e : WordFault) × (command_of (map string_bytes words.now) ≡ Err e) }
     ensures refused { (e : WordFault) → command_of (map string_bytes words.now) ≡ Err e → (result ≡ 2) ⊎ (result ≡ 6) }
+
+    // It comes wherever the look refuses the words, since that takes no memory.
+    ensures look { IsTrue (is_refused (map string_bytes words.now)) → result ≡ 2 }
 
     // A whole capture is reported or listed where no call fails, unless memory runs out.
     ensures done { (c : Command) (bytes : List ℕ) → command_of (map string_bytes words.now) ≡ Ok c → ReadsCapture c.mode

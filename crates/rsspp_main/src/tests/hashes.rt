@@ -51,7 +51,7 @@ fn published_vectors_are_listed(rt: HostRuntime) -> Result<(), Fail> {
 }
 
 #[test]
-fn frames_without_ipv4_have_no_hash(rt: HostRuntime) -> Result<(), Fail> {
+fn frames_without_ip_have_no_hash(rt: HostRuntime) -> Result<(), Fail> {
     let capture = capture_of(rt.alloc(), &[(&[], 42), (&ARP, 42)])?;
     let ran = run(rt.alloc(), &["hash"], &capture, WHOLE)?;
     let text = "0 00000000 0 0 other\n1 00000000 0 0 other\n";
@@ -84,5 +84,34 @@ fn a_listing_has_the_lines_before_a_break(rt: HostRuntime) -> Result<(), Fail> {
     let ran = run(rt.alloc(), &["hash"], &capture, WHOLE)?;
     assert_eq!(rt; ran.status, 3);
     assert!(rt; ran.out.as_slice() == b"0 00000000 0 0 other\n".as_slice());
+    Ok(())
+}
+
+// Whichever read fails, the lines of all whole records before it stand.
+#[test]
+fn a_listing_has_the_lines_before_a_failed_read(rt: HostRuntime) -> Result<(), Fail> {
+    let capture = capture_of(rt.alloc(), &[(&[], 1), (&ARP, 3), (&[], 2)])?;
+    let whole = run(rt.alloc(), &["hash"], &capture, WHOLE)?;
+    let reads = capture.len() as u64 + 1;
+    // Each read gives one byte: the records end behind 40, 98 and 114 of them.
+    for failing_read in 1..=reads {
+        let ends = Ends {
+            cut: 1,
+            failing_read,
+            ..WHOLE
+        };
+        let ran = run(rt.alloc(), &["hash"], &capture, ends)?;
+        assert_eq!(rt; ran.status, 4);
+        let records = [40, 98, 114]
+            .iter()
+            .filter(|end| **end < failing_read)
+            .count();
+        assert!(rt; whole.out.starts_with(&ran.out));
+        assert_eq!(rt;
+            ran.out.iter().filter(|byte| **byte == b'\n').count(),
+            records
+        );
+        assert!(rt; ran.out.is_empty() || ran.out.ends_with(b"\n"));
+    }
     Ok(())
 }

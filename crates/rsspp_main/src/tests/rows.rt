@@ -39,7 +39,7 @@ fn a_segment_is_a_flow(rt: HostRuntime) -> Result<(), Fail> {
 }
 
 #[test]
-fn frames_without_ipv4_are_one_flow(rt: HostRuntime) -> Result<(), Fail> {
+fn frames_without_ip_are_one_flow(rt: HostRuntime) -> Result<(), Fail> {
     let capture = capture_of(rt.alloc(), &[(&[], 42), (&ARP, 42)])?;
     let text = "other packets 2 bytes 84\ntotal flows 1 packets 2 bytes 84\n";
     assert!(rt; reports(rt.alloc(), &capture, 0, text, "")?);

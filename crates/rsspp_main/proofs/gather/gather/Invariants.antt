@@ -3,7 +3,7 @@ use Rattle.pcap_reader.specs.declared.reader.Progress.TheVariants.{Going}
 use Rattle.pcap_reader.specs.Capture.{Captured}
 use Rattle.pcap_reader.specs.Stream.{SoFar}
 use Rattle.pcap_reader.specs.Reading.{still}
-use Rattle.rsspp_main.specs.Packets.{packet_of}
+use Rattle.dispatch_loop.specs.Packets.{packet_of}
 use Rattle.rsspp_main.specs.Tables.{AreTables}
 use Rattle.rsspp_main.proofs.gather.gather.Given as goal
 

@@ -4,7 +4,7 @@ use Rattle.pcap_reader.specs.Capture.{Captured}
 use Rattle.pcap_reader.specs.Stream.{SoFar}
 use Rattle.pcap_reader.specs.Reading.{still}
 use Rattle.rsspp_main.specs.Listing.{listing, IsListed}
-use Rattle.rsspp_main.specs.Packets.{packet_of}
+use Rattle.dispatch_loop.specs.Packets.{packet_of}
 use Rattle.rsspp_main.proofs.listing.list_hashes.Given as goal
 
 abbrev pub invariant-packets : goal.invariant-packets

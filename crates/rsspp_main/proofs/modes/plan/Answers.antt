@@ -4,7 +4,7 @@ use Rattle.rsspp_main.proofs.Planned.{plan_failed}
 use Rattle.rsspp_main.proofs.modes.plan.Goals as goal
 
 pub returns-in-Ok-clause-outcome : goal.returns-in-Ok-clause-outcome
-returns-in-Ok-clause-outcome g c = let d = c.in-Ok.ensures.done in (d.0, d.1, d.3, d.2)
+returns-in-Ok-clause-outcome g c = let d = c.in-Ok.ensures.done in (d.0, d.1, d.3, d.2, record { reads = c.in-Ok.ensures.reads; writes = c.in-Ok.ensures.writes })
 
 pub returns-in-Err-clause-outcome : goal.returns-in-Err-clause-outcome
 returns-in-Err-clause-outcome g c =
