@@ -1,0 +1,3 @@
+pub mod Parts
+pub mod Resolution
+pub mod Stories

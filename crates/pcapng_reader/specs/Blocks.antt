@@ -1,0 +1,104 @@
+-- A pcapng capture: its blocks one behind the other, the packets that they hold, and its first break.
+use Rattle.std.specs.Prelude.{ℕ, zero, suc, ◌+◌, ◌-◌, List, [], ◌∷◌, ◌++◌, length, take, drop, Option, None, Some, slice_get}
+use Rattle.pcapng_reader.specs.declared.byte_order.ByteOrder.{ByteOrder}
+use Rattle.pcapng_reader.specs.declared.byte_order.ByteOrder.TheVariants.{Little}
+use Rattle.pcapng_reader.specs.declared.kind.BlockKind.{BlockKind}
+use Rattle.pcapng_reader.specs.declared.kind.BlockKind.TheVariants.{Section, Description, Simple, Enhanced}
+use Rattle.pcapng_reader.specs.declared.fault.NgBreak.{NgBreak}
+use Rattle.pcapng_reader.specs.declared.interface.Interface.{Interface}
+use Rattle.pcapng_reader.specs.declared.format.TheConstants.{FRONT, OPTIONS_AT, TRAILER}
+use Rattle.pcapng_reader.specs.Numbers.{number_at}
+use Rattle.pcapng_reader.specs.Options.{resolution_of}
+use Rattle.pcapng_reader.specs.Time.{nanos_of}
+use Rattle.pcapng_reader.specs.Scope.{Scope}
+use Rattle.pcapng_reader.specs.Front.{kind_of, order_in, total_in, interface_named, bytes_at, captured_of, original_of, ticks_of}
+use Rattle.pcapng_reader.specs.Breaks.{first_break}
+
+-- a captured frame: what it begins with, when it came, how long it was on the wire, and its captured bytes
+pub record Packet : Type 0 where
+  pub link : ℕ
+  pub nanos : ℕ
+  pub original : ℕ
+  pub bytes : List ℕ
+
+-- how many bytes the block at the front has, `gone` of which were let go before
+abbrev pub extent : ByteOrder → ℕ → List ℕ → ℕ
+extent order gone bytes = total_in order (take FRONT bytes) - gone
+
+-- the interface that a block describes (pcapng, "Interface Description Block")
+abbrev pub described : ByteOrder → ℕ → List ℕ → Interface
+described order gone bytes = record {
+  link = number_at order 2 8 (take FRONT bytes);
+  snap = number_at order 4 12 (take FRONT bytes);
+  resolution = resolution_of order (take (extent order gone bytes - OPTIONS_AT - TRAILER) (drop OPTIONS_AT bytes));
+}
+
+-- the packet of a record of an interface
+abbrev pub packet_at : BlockKind → ByteOrder → Interface → List ℕ → Packet
+packet_at kind order interface bytes = record {
+  link = interface.link;
+  nanos = nanos_of (ticks_of kind order (take FRONT bytes)) interface.resolution;
+  original = original_of kind order (take FRONT bytes);
+  bytes = take (captured_of kind order interface (take FRONT bytes)) (drop (bytes_at kind) bytes);
+}
+
+abbrev pub packet_by : BlockKind → ByteOrder → Option Interface → List ℕ → List Packet
+packet_by kind order None bytes = []
+packet_by kind order (Some interface) bytes = packet_at kind order interface bytes ∷ []
+
+abbrev pub record_of : BlockKind → Scope → List ℕ → List Packet
+record_of kind scope bytes = packet_by kind scope.order (slice_get scope.interfaces (interface_named kind scope.order (take FRONT bytes))) bytes
+
+-- the packets of a whole block: one of a record, and else none
+abbrev pub packets_by : BlockKind → Scope → List ℕ → List Packet
+packets_by Simple scope bytes = record_of Simple scope bytes
+packets_by Enhanced scope bytes = record_of Enhanced scope bytes
+packets_by _ scope bytes = []
+
+unfoldable pub packets_in : Scope → List ℕ → List Packet
+packets_in scope bytes = packets_by (kind_of scope.order (take FRONT bytes)) scope bytes
+
+-- the link of the first packet, if there is one
+abbrev pub link_with : Option ℕ → List Packet → Option ℕ
+link_with (Some link) packets = Some link
+link_with None [] = None
+link_with None (p ∷ ps) = Some p.link
+
+-- what the blocks up to this one tell
+abbrev pub after_by : BlockKind → Scope → ℕ → List ℕ → Scope
+after_by Section scope gone bytes = record { order = order_in scope.order (take FRONT bytes); interfaces = []; link = scope.link }
+after_by Description scope gone bytes = record { order = scope.order; interfaces = scope.interfaces ++ described scope.order gone bytes ∷ []; link = scope.link }
+after_by kind scope gone bytes = record { order = scope.order; interfaces = scope.interfaces; link = link_with scope.link (packets_by kind scope bytes) }
+
+unfoldable pub scope_after : Scope → ℕ → List ℕ → Scope
+scope_after scope gone bytes = after_by (kind_of scope.order (take FRONT bytes)) scope gone bytes
+
+-- the packets of an input, and the first break behind them
+pub record Story : Type 0 where
+  pub packets : List Packet
+  pub broken : Option NgBreak
+
+-- these packets, and then a story
+abbrev pub before : List Packet → Story → Story
+before packets story = record { packets = packets ++ story.packets; broken = story.broken }
+
+-- the story behind a block: it ends at a break
+abbrev pub unless : Option NgBreak → Story → Story
+unless (Some e) story = record { packets = []; broken = Some e }
+unless None story = story
+
+-- the story of the blocks from number n on, at most so many, in the scope of the blocks before. Of the first of them `gone` bytes were let go before
+unfoldable pub story_from : ℕ → Scope → ℕ → ℕ → List ℕ → Story
+story_from zero scope n gone bytes = record { packets = []; broken = None }
+story_from (suc most) scope n gone [] = record { packets = []; broken = None }
+story_from (suc most) scope n gone (b ∷ bs) =
+    unless (first_break scope n gone (b ∷ bs))
+    (before (packets_in scope (b ∷ bs)) (story_from most (scope_after scope gone (b ∷ bs)) (n + 1) 0 (drop (extent scope.order gone (b ∷ bs)) (b ∷ bs))))
+
+-- nothing was told before the first block, which is a section header
+abbrev pub at_first : Scope
+at_first = record { order = Little; interfaces = []; link = None }
+
+-- the story of a list of bytes, each of whose blocks takes at least one
+unfoldable pub story_of : List ℕ → Story
+story_of bytes = story_from (length bytes) at_first 0 0 bytes

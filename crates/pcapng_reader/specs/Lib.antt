@@ -1,0 +1,9 @@
+pub mod Blocks
+pub mod Breaks
+pub mod Classic
+pub mod Front
+pub mod Numbers
+pub mod Options
+pub mod Reading
+pub mod Scope
+pub mod Time
