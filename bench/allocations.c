@@ -3,8 +3,10 @@
 #include <dlfcn.h>
 #include <stdio.h>
 #include <stdlib.h>
+#include <sys/syscall.h>
+#include <unistd.h>
 
-static unsigned long taken;
+static _Atomic unsigned long taken;
 
 void *malloc(size_t size)
 {
@@ -27,4 +29,12 @@ void *realloc(void *old, size_t size)
 __attribute__((destructor)) static void tell(void)
 {
     fprintf(stderr, "%lu\n", taken);
+}
+
+/* A program that may start threads ends by this call, and no destructor runs then. */
+void _exit(int status)
+{
+    tell();
+    for (;;)
+        syscall(SYS_exit_group, status);
 }
