@@ -1,4 +1,5 @@
 pub mod Faults
+pub mod Fold
 pub mod Hex
 pub mod Memory
 pub mod Piece

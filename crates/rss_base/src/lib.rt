@@ -5,6 +5,7 @@
 //! lists of bytes, and ties each fault that it answers to a call that failed.
 #![tactic(auto)]
 
+mod fold_sink;
 mod gate;
 mod link;
 mod memory_sink;
@@ -19,6 +20,7 @@ mod std_source;
 mod tests;
 mod text;
 
+pub use fold_sink::FoldSink;
 pub use gate::{Gate, OpenGate};
 pub use link::Link;
 pub use memory_sink::MemorySink;

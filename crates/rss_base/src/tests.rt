@@ -1,6 +1,6 @@
 use crate::{
-    Failed, MemorySink, MemorySource, Piece, Sink, Source, StdSink, StdSource, Text, write_pieces,
-    write_whole,
+    Failed, FoldSink, MemorySink, MemorySource, Piece, Sink, Source, StdSink, StdSource, Text,
+    write_pieces, write_whole,
 };
 use std::io::{BufWriter, Cursor};
 use std::test::Fail;
@@ -40,6 +40,20 @@ fn a_memory_sink_takes_whole_pieces(rt: HostRuntime) -> Result<(), Fail> {
         assert!(rt; sink.write(piece.as_bytes()) == answer);
     }
     assert!(rt; sink.bytes() == b"abcde".as_slice());
+    Ok(())
+}
+
+// "abc" has the sum (97 * 31 + 98) * 31 + 99, and the second text's passes 32 bits.
+#[test]
+fn a_fold_sink_keeps_length_and_sum(rt: HostRuntime) -> Result<(), Fail> {
+    let mut sink = FoldSink::new();
+    assert!(rt; (sink.length(), sink.sum()) == (0, 0));
+    assert!(rt; write_whole(&mut sink, b"ab").is_ok());
+    assert!(rt; write_whole(&mut sink, b"c").is_ok());
+    assert!(rt; (sink.length(), sink.sum()) == (3, 96_354));
+    let mut other = FoldSink::new();
+    assert!(rt; write_whole(&mut other, b"total flows 1").is_ok());
+    assert!(rt; (other.length(), other.sum()) == (13, 3_426_348_794));
     Ok(())
 }
 
