@@ -2,3 +2,4 @@ pub mod BitFields
 pub mod Parts
 pub mod Picks
 pub mod Steps
+pub mod Tables

@@ -1,4 +1,5 @@
 pub mod Bits
 pub mod Bucket
 pub mod Packet
+pub mod Tables
 pub mod Toeplitz

@@ -18,7 +18,7 @@ fn window_of(key: &[u8]) -> u64
 }
 
 // The hash of one byte.
-fn byte_hash(key: &[u8], byte: u8) -> u32
+pub(crate) fn byte_hash(key: &[u8], byte: u8) -> u32
     requires { 5 ≤ length key.now }
     ensures { result ≡ toeplitz key.now (byte ∷ []) }
 {

@@ -2,18 +2,21 @@
 //!
 //! [`hash`] is proved equal to an exclusive or over the set bits of its input
 //! (`specs/Toeplitz.antt`), and [`hash_info`] to the hash of what a packet's class has hashed
-//! (`specs/Packet.antt`). [`one_bucket_each`] says that each packet of a list is in one bucket, which
+//! (`specs/Packet.antt`). [`KeyTables`] answers the same by tables, one look-up a byte, and contracts
+//! see its key alone. [`one_bucket_each`] says that each packet of a list is in one bucket, which
 //! its flow alone decides (`specs/Bucket.antt`).
 #![tactic(auto)]
 
 mod input_hash;
 mod key;
+mod key_tables;
 mod laws;
 mod limit_laws;
 mod packet_hash;
 
 pub use input_hash::{MOST_INPUT, hash};
 pub use key::{DEFAULT_KEY, KEY_BYTES, Key};
+pub use key_tables::KeyTables;
 pub use laws::one_bucket_each;
 pub use limit_laws::keys_are_stated;
 pub use packet_hash::hash_info;

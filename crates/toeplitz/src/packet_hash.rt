@@ -14,7 +14,7 @@ fn low_bits(address: u128) -> u32
 }
 
 // Both addresses in network byte order.
-fn addresses(flow: &FlowKey) -> [u8; 8]
+pub(crate) fn addresses(flow: &FlowKey) -> [u8; 8]
     ensures { result ≡ addresses_of flow.now }
 {
     let mut bytes = [0; 8];
@@ -24,7 +24,7 @@ fn addresses(flow: &FlowKey) -> [u8; 8]
 }
 
 // Both addresses and both ports in network byte order.
-fn ends(flow: &FlowKey) -> [u8; 12]
+pub(crate) fn ends(flow: &FlowKey) -> [u8; 12]
     ensures { result ≡ ends_of flow.now }
 {
     let mut bytes = [0; 12];
@@ -35,7 +35,7 @@ fn ends(flow: &FlowKey) -> [u8; 12]
 }
 
 // Both addresses of IPv6 in network byte order.
-fn ipv6_addresses(flow: &FlowKey) -> [u8; 32]
+pub(crate) fn ipv6_addresses(flow: &FlowKey) -> [u8; 32]
     ensures { result ≡ ipv6_addresses_of flow.now }
 {
     let mut bytes = [0; 32];
@@ -45,7 +45,7 @@ fn ipv6_addresses(flow: &FlowKey) -> [u8; 32]
 }
 
 // Both addresses of IPv6 and both ports in network byte order.
-fn ipv6_ends(flow: &FlowKey) -> [u8; 36]
+pub(crate) fn ipv6_ends(flow: &FlowKey) -> [u8; 36]
     ensures { result ≡ ipv6_ends_of flow.now }
 {
     let mut bytes = [0; 36];

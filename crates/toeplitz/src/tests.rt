@@ -1,6 +1,7 @@
 // The vectors of the Microsoft RSS definition, which are made with the default key.
-use crate::{DEFAULT_KEY, hash, hash_info};
+use crate::{DEFAULT_KEY, KeyTables, hash, hash_info};
 use packet_fields::{Class, FlowKey, PacketInfo};
+use std::test::Fail;
 
 struct Vector {
     source: u128,
@@ -145,4 +146,35 @@ fn published_packets_without_ports_have_their_hashes(rt: HostRuntime) {
         assert_eq!(rt; hash_info(&DEFAULT_KEY, &ip), vector.of_addresses);
         assert_eq!(rt; hash_info(&DEFAULT_KEY, &other), 0);
     }
+}
+
+#[test]
+fn tables_have_the_same_hashes(rt: HostRuntime) -> Result<(), Fail> {
+    let tables = KeyTables::new(rt.alloc(), &DEFAULT_KEY)?;
+    for vector in &VECTORS {
+        assert_eq!(rt; tables.hash(&vector.input), vector.of_ends);
+        assert_eq!(rt; tables.hash(&vector.input[..8]), vector.of_addresses);
+        let tcp = packet_of(Class::Tcp, vector);
+        let ip = packet_of(Class::Ip, vector);
+        assert_eq!(rt; tables.hash_info(&tcp), vector.of_ends);
+        assert_eq!(rt; tables.hash_info(&ip), vector.of_addresses);
+    }
+    Ok(())
+}
+
+#[test]
+fn tables_have_the_same_hashes_over_ipv6(rt: HostRuntime) -> Result<(), Fail> {
+    let tables = KeyTables::new(rt.alloc(), &DEFAULT_KEY)?;
+    assert_eq!(rt; tables.hash(&LONGEST), 0x4020_7d3d);
+    assert_eq!(rt; tables.hash(&LONGEST[..32]), 0x2cc1_8cd5);
+    assert_eq!(rt;
+        tables.hash_info(&packet_over_ipv6(Class::Udp6)),
+        0x4020_7d3d
+    );
+    assert_eq!(rt;
+        tables.hash_info(&packet_over_ipv6(Class::Ip6)),
+        0x2cc1_8cd5
+    );
+    assert_eq!(rt; tables.hash_info(&packet_over_ipv6(Class::Other)), 0);
+    Ok(())
 }
