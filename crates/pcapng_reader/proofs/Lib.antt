@@ -1,3 +1,15 @@
+pub mod Places
+pub mod Fronts
+pub mod Givings
+pub mod Glances
+pub mod Insides
+pub mod Lifts
+pub mod Opens
 pub mod Parts
 pub mod Resolution
+pub mod Settling
+pub mod Standing
 pub mod Stories
+pub mod Tales
+pub mod Tellings
+pub mod Turning

@@ -6,7 +6,6 @@ use Rattle.pcapng_reader.specs.declared.kind.BlockKind.{BlockKind}
 use Rattle.pcapng_reader.specs.declared.kind.BlockKind.TheVariants.{Section, Description, Simple, Enhanced}
 use Rattle.pcapng_reader.specs.declared.fault.NgBreak.{NgBreak}
 use Rattle.pcapng_reader.specs.declared.interface.Interface.{Interface}
-use Rattle.pcapng_reader.specs.declared.format.TheConstants.{FRONT, OPTIONS_AT, TRAILER}
 use Rattle.pcapng_reader.specs.Numbers.{number_at}
 use Rattle.pcapng_reader.specs.Options.{resolution_of}
 use Rattle.pcapng_reader.specs.Time.{nanos_of}
@@ -21,25 +20,25 @@ pub record Packet : Type 0 where
   pub original : ℕ
   pub bytes : List ℕ
 
--- how many bytes the block at the front has, `gone` of which were let go before
-abbrev pub extent : ByteOrder → ℕ → List ℕ → ℕ
-extent order gone bytes = total_in order (take FRONT bytes) - gone
+-- how many bytes the block at the front has
+abbrev pub extent : ByteOrder → List ℕ → ℕ
+extent order bytes = total_in order (take 28 bytes)
 
--- the interface that a block describes (pcapng, "Interface Description Block")
-abbrev pub described : ByteOrder → ℕ → List ℕ → Interface
-described order gone bytes = record {
-  link = number_at order 2 8 (take FRONT bytes);
-  snap = number_at order 4 12 (take FRONT bytes);
-  resolution = resolution_of order (take (extent order gone bytes - OPTIONS_AT - TRAILER) (drop OPTIONS_AT bytes));
+-- the interface that a block describes: its options stand between byte 16 and the total length at the end (pcapng, "Interface Description Block")
+abbrev pub described : ByteOrder → List ℕ → Interface
+described order bytes = record {
+  link = number_at order 2 8 (take 28 bytes);
+  snap = number_at order 4 12 (take 28 bytes);
+  resolution = resolution_of order (take (extent order bytes - 16 - 4) (drop 16 bytes));
 }
 
 -- the packet of a record of an interface
 abbrev pub packet_at : BlockKind → ByteOrder → Interface → List ℕ → Packet
 packet_at kind order interface bytes = record {
   link = interface.link;
-  nanos = nanos_of (ticks_of kind order (take FRONT bytes)) interface.resolution;
-  original = original_of kind order (take FRONT bytes);
-  bytes = take (captured_of kind order interface (take FRONT bytes)) (drop (bytes_at kind) bytes);
+  nanos = nanos_of (ticks_of kind order (take 28 bytes)) interface.resolution;
+  original = original_of kind order (take 28 bytes);
+  bytes = take (captured_of kind order interface (take 28 bytes)) (drop (bytes_at kind) bytes);
 }
 
 abbrev pub packet_by : BlockKind → ByteOrder → Option Interface → List ℕ → List Packet
@@ -47,7 +46,7 @@ packet_by kind order None bytes = []
 packet_by kind order (Some interface) bytes = packet_at kind order interface bytes ∷ []
 
 abbrev pub record_of : BlockKind → Scope → List ℕ → List Packet
-record_of kind scope bytes = packet_by kind scope.order (slice_get scope.interfaces (interface_named kind scope.order (take FRONT bytes))) bytes
+record_of kind scope bytes = packet_by kind scope.order (slice_get scope.interfaces (interface_named kind scope.order (take 28 bytes))) bytes
 
 -- the packets of a whole block: one of a record, and else none
 abbrev pub packets_by : BlockKind → Scope → List ℕ → List Packet
@@ -56,7 +55,7 @@ packets_by Enhanced scope bytes = record_of Enhanced scope bytes
 packets_by _ scope bytes = []
 
 unfoldable pub packets_in : Scope → List ℕ → List Packet
-packets_in scope bytes = packets_by (kind_of scope.order (take FRONT bytes)) scope bytes
+packets_in scope bytes = packets_by (kind_of scope.order (take 28 bytes)) scope bytes
 
 -- the link of the first packet, if there is one
 abbrev pub link_with : Option ℕ → List Packet → Option ℕ
@@ -65,13 +64,13 @@ link_with None [] = None
 link_with None (p ∷ ps) = Some p.link
 
 -- what the blocks up to this one tell
-abbrev pub after_by : BlockKind → Scope → ℕ → List ℕ → Scope
-after_by Section scope gone bytes = record { order = order_in scope.order (take FRONT bytes); interfaces = []; link = scope.link }
-after_by Description scope gone bytes = record { order = scope.order; interfaces = scope.interfaces ++ described scope.order gone bytes ∷ []; link = scope.link }
-after_by kind scope gone bytes = record { order = scope.order; interfaces = scope.interfaces; link = link_with scope.link (packets_by kind scope bytes) }
+abbrev pub after_by : BlockKind → Scope → List ℕ → Scope
+after_by Section scope bytes = record { order = order_in scope.order (take 28 bytes); interfaces = []; link = scope.link }
+after_by Description scope bytes = record { order = scope.order; interfaces = scope.interfaces ++ described scope.order bytes ∷ []; link = scope.link }
+after_by kind scope bytes = record { order = scope.order; interfaces = scope.interfaces; link = link_with scope.link (packets_by kind scope bytes) }
 
-unfoldable pub scope_after : Scope → ℕ → List ℕ → Scope
-scope_after scope gone bytes = after_by (kind_of scope.order (take FRONT bytes)) scope gone bytes
+unfoldable pub scope_after : Scope → List ℕ → Scope
+scope_after scope bytes = after_by (kind_of scope.order (take 28 bytes)) scope bytes
 
 -- the packets of an input, and the first break behind them
 pub record Story : Type 0 where
@@ -87,18 +86,22 @@ abbrev pub unless : Option NgBreak → Story → Story
 unless (Some e) story = record { packets = []; broken = Some e }
 unless None story = story
 
--- the story of the blocks from number n on, at most so many, in the scope of the blocks before. Of the first of them `gone` bytes were let go before
-unfoldable pub story_from : ℕ → Scope → ℕ → ℕ → List ℕ → Story
-story_from zero scope n gone bytes = record { packets = []; broken = None }
-story_from (suc most) scope n gone [] = record { packets = []; broken = None }
-story_from (suc most) scope n gone (b ∷ bs) =
-    unless (first_break scope n gone (b ∷ bs))
-    (before (packets_in scope (b ∷ bs)) (story_from most (scope_after scope gone (b ∷ bs)) (n + 1) 0 (drop (extent scope.order gone (b ∷ bs)) (b ∷ bs))))
+-- the story of the blocks from number n on, at most so many, in the scope of the blocks before
+unfoldable pub story_from : ℕ → Scope → ℕ → List ℕ → Story
+story_from zero scope n bytes = record { packets = []; broken = None }
+story_from (suc most) scope n [] = record { packets = []; broken = None }
+story_from (suc most) scope n (b ∷ bs) =
+    unless (first_break scope n (b ∷ bs))
+    (before (packets_in scope (b ∷ bs)) (story_from most (scope_after scope (b ∷ bs)) (n + 1) (drop (extent scope.order (b ∷ bs)) (b ∷ bs))))
+
+-- the story from a block on: each block takes at least one byte
+unfoldable pub story_at : Scope → ℕ → List ℕ → Story
+story_at scope n bytes = story_from (length bytes) scope n bytes
 
 -- nothing was told before the first block, which is a section header
 abbrev pub at_first : Scope
 at_first = record { order = Little; interfaces = []; link = None }
 
--- the story of a list of bytes, each of whose blocks takes at least one
-unfoldable pub story_of : List ℕ → Story
-story_of bytes = story_from (length bytes) at_first 0 0 bytes
+-- the story of a list of bytes
+abbrev pub story_of : List ℕ → Story
+story_of bytes = story_at at_first 0 bytes

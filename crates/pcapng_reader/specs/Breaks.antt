@@ -8,7 +8,6 @@ use Rattle.pcapng_reader.specs.declared.fault.NgKind.{NgKind}
 use Rattle.pcapng_reader.specs.declared.fault.NgKind.TheVariants as breaks
 use Rattle.pcapng_reader.specs.declared.fault.NgBreak.{NgBreak}
 use Rattle.pcapng_reader.specs.declared.interface.Interface.{Interface}
-use Rattle.pcapng_reader.specs.declared.format.TheConstants.{LAST_BLOCK, MAJOR, MOST_INTERFACES, LONGEST, LINK_ETHERNET, LINK_RAW, TRAILER, FRONT}
 use Rattle.pcapng_reader.specs.Numbers.{number_at}
 use Rattle.pcapng_reader.specs.Options.{padded}
 use Rattle.pcapng_reader.specs.Scope.{Scope}
@@ -48,7 +47,7 @@ is_kind_description _ = false
 -- what is wrong with the frame of a block: its number, its first bytes, its byte order and its total length
 abbrev pub frame_rows : ByteOrder → ℕ → List ℕ → List Row
 frame_rows order n front =
-    row (n == LAST_BLOCK) breaks.Blocks 0
+    row (n == 4_294_967_295) breaks.Blocks 0
     ∷ row (nat_lt (length front) 8 || (is_section front && nat_lt (length front) 12)) breaks.Short (length front)
     ∷ row (is_section front && is_none (order_told front)) breaks.Order (number_at Big 4 8 front)
     ∷ row (not (total_in order front % 4 == 0) || nat_lt (total_in order front) (least_total (kind_of order front))) breaks.Length (total_in order front)
@@ -58,21 +57,21 @@ frame_rows order n front =
 -- what is wrong with a section header or an interface, among so many others
 abbrev pub section_rows : ByteOrder → ℕ → List ℕ → List Row
 section_rows order others front =
-    row (is_kind_section (kind_of order front) && not (number_at (order_in order front) 2 12 front == MAJOR)) breaks.Version (number_at (order_in order front) 2 12 front)
-    ∷ row (is_kind_description (kind_of order front) && not (nat_lt others MOST_INTERFACES)) breaks.Interfaces MOST_INTERFACES
+    row (is_kind_section (kind_of order front) && not (number_at (order_in order front) 2 12 front == 1)) breaks.Version (number_at (order_in order front) 2 12 front)
+    ∷ row (is_kind_description (kind_of order front) && not (nat_lt others 256)) breaks.Interfaces 256
     ∷ []
 
--- a link that no record may have, by that of the first record
+-- a link that no record may have: neither Ethernet (1) nor raw IP (101), or not that of the first record
 abbrev pub is_bad_link : Option ℕ → ℕ → Bool
-is_bad_link None link = not (link == LINK_ETHERNET || link == LINK_RAW)
-is_bad_link (Some first) link = not (link == LINK_ETHERNET || link == LINK_RAW) || not (link == first)
+is_bad_link None link = not (link == 1 || link == 101)
+is_bad_link (Some first) link = not (link == 1 || link == 101) || not (link == first)
 
 -- what is wrong with a record of an interface
 abbrev pub record_rows : Option ℕ → BlockKind → ByteOrder → Interface → List ℕ → List Row
 record_rows first kind order interface front =
     row (is_bad_link first interface.link) breaks.Link interface.link
-    ∷ row (nat_lt LONGEST (captured_of kind order interface front)) breaks.Long (captured_of kind order interface front)
-    ∷ row (nat_lt (number_at order 4 4 front) (bytes_at kind + padded (captured_of kind order interface front) + TRAILER)) breaks.Length (number_at order 4 4 front)
+    ∷ row (nat_lt 262_144 (captured_of kind order interface front)) breaks.Long (captured_of kind order interface front)
+    ∷ row (nat_lt (number_at order 4 4 front) (bytes_at kind + padded (captured_of kind order interface front) + 4)) breaks.Length (number_at order 4 4 front)
     ∷ []
 
 -- what is wrong with a record: its interface isn't there, or as above
@@ -89,14 +88,17 @@ front_break scope n front =
     then record_break n scope.link (kind_of scope.order front) scope.order (slice_get scope.interfaces (interface_named (kind_of scope.order front) scope.order front)) front
     else None))
 
--- what is wrong behind the front of block n, `gone` bytes of which were let go before
-abbrev pub rest_rows : ByteOrder → ℕ → List ℕ → List Row
-rest_rows order gone bytes =
-    row (nat_lt (gone + length bytes) (total_in order (take FRONT bytes))) breaks.Short (gone + length bytes)
-    ∷ row (not (number_at (order_in order (take FRONT bytes)) 4 (total_in order (take FRONT bytes) - gone - TRAILER) bytes == total_in order (take FRONT bytes)))
-    breaks.Tail (number_at (order_in order (take FRONT bytes)) 4 (total_in order (take FRONT bytes) - gone - TRAILER) bytes)
+-- the total length at the end of the block at the front (pcapng, "General Block Structure")
+abbrev pub total_again : ByteOrder → List ℕ → ℕ
+total_again order bytes = number_at (order_in order (take 28 bytes)) 4 (total_in order (take 28 bytes) - 4) bytes
+
+-- what is wrong behind the front of a block: it is cut off, or tells another total length at its end
+abbrev pub rest_rows : ByteOrder → List ℕ → List Row
+rest_rows order bytes =
+    row (nat_lt (length bytes) (total_in order (take 28 bytes))) breaks.Short (length bytes)
+    ∷ row (not (total_again order bytes == total_in order (take 28 bytes))) breaks.Tail (total_again order bytes)
     ∷ []
 
 -- the first break of block n, which these bytes begin with
-unfoldable pub first_break : Scope → ℕ → ℕ → List ℕ → Option NgBreak
-first_break scope n gone bytes = first_of (front_break scope n (take FRONT bytes)) (first_row n (rest_rows scope.order gone bytes))
+unfoldable pub first_break : Scope → ℕ → List ℕ → Option NgBreak
+first_break scope n bytes = first_of (front_break scope n (take 28 bytes)) (first_row n (rest_rows scope.order bytes))

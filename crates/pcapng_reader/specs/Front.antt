@@ -5,20 +5,19 @@ use Rattle.pcapng_reader.specs.declared.byte_order.ByteOrder.TheVariants.{Little
 use Rattle.pcapng_reader.specs.declared.kind.BlockKind.{BlockKind}
 use Rattle.pcapng_reader.specs.declared.kind.BlockKind.TheVariants.{Section, Description, Simple, Enhanced, Other}
 use Rattle.pcapng_reader.specs.declared.interface.Interface.{Interface}
-use Rattle.pcapng_reader.specs.declared.format.TheConstants.{SECTION_HEADER, INTERFACE_DESCRIPTION, SIMPLE_PACKET, ENHANCED_PACKET, BYTE_ORDER_MAGIC}
 use Rattle.pcapng_reader.specs.Numbers.{number_at}
 
 -- the kind of a block type (pcapng, "Block Types")
 abbrev pub kind_by : ℕ → BlockKind
 kind_by number =
-    if number == INTERFACE_DESCRIPTION then Description
-    else (if number == SIMPLE_PACKET then Simple
-    else (if number == ENHANCED_PACKET then Enhanced
+    if number == 1 then Description
+    else (if number == 3 then Simple
+    else (if number == 6 then Enhanced
     else Other))
 
 -- a section header, whose type reads alike in both orders
 abbrev pub is_section : List ℕ → Bool
-is_section front = number_at Big 4 0 front == SECTION_HEADER
+is_section front = number_at Big 4 0 front == 0x0a0d_0d0a
 
 -- the kind of the block with this front
 unfoldable pub kind_of : ByteOrder → List ℕ → BlockKind
@@ -27,8 +26,8 @@ kind_of order front = if is_section front then Section else kind_by (number_at o
 -- the byte order that a section header's magic tells (pcapng, "Section Header Block": Byte-Order Magic)
 abbrev pub order_told : List ℕ → Option ByteOrder
 order_told front =
-    if number_at Big 4 8 front == BYTE_ORDER_MAGIC then Some Big
-    else (if number_at Little 4 8 front == BYTE_ORDER_MAGIC then Some Little
+    if number_at Big 4 8 front == 0x1a2b_3c4d then Some Big
+    else (if number_at Little 4 8 front == 0x1a2b_3c4d then Some Little
     else None)
 
 abbrev pub or_else : {T : Type 0} → Option T → T → T

@@ -2,8 +2,13 @@ pub mod Blocks
 pub mod Breaks
 pub mod Classic
 pub mod Front
+pub mod Lent
+pub mod Looks
 pub mod Numbers
 pub mod Options
+pub mod Progress
 pub mod Reading
 pub mod Scope
+pub mod Stages
+pub mod Steps
 pub mod Time

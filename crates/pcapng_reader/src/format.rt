@@ -22,9 +22,6 @@ pub const MAJOR: u16 = 1;
 /// The bytes at a block's front in which all fixed fields lie.
 pub const FRONT: usize = 28;
 
-/// Where the options of an interface begin in its block.
-pub const OPTIONS_AT: usize = 16;
-
 /// Bytes behind a block's body: the total length again.
 pub const TRAILER: u32 = 4;
 

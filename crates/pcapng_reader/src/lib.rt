@@ -3,10 +3,12 @@
 //! A pcapng capture is a list of blocks (draft-ietf-opsawg-pcapng). Its definition, `specs/Blocks.antt`,
 //! reads each list of bytes as the packets before the first break and that break, and [`one_story`]
 //! says that no other reading of these bytes is one. `specs/Breaks.antt` has the breaks as a table, and
-//! `specs/Classic.antt` says which classic capture holds the packets. The decoders of a block's parts
-//! are exact against the definition.
+//! `specs/Classic.antt` says which classic capture holds the packets. An [`NgSource`] gives the bytes of
+//! that capture, however its own source cuts the input and whichever reads fail, and then tells the
+//! first break.
 #![tactic(auto)]
 
+mod adding;
 mod breaks;
 mod byte_order;
 mod classic;
@@ -16,13 +18,21 @@ mod front;
 mod interface;
 mod kind;
 mod laws;
+mod look;
 mod numbers;
+mod opening;
 mod options;
+mod reading;
 mod ready;
 mod scope;
+mod source;
+#[cfg(test)]
+mod source_tests;
+mod stage;
 #[cfg(test)]
 mod tests;
 mod time;
+mod turn;
 mod window;
 
 pub use byte_order::ByteOrder;
@@ -30,3 +40,5 @@ pub use fault::{NgBreak, NgError, NgKind};
 pub use interface::Interface;
 pub use kind::BlockKind;
 pub use laws::one_story;
+pub use opening::NgOpening;
+pub use source::NgSource;

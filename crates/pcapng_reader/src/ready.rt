@@ -1,7 +1,7 @@
 // The bytes that are given before those of the window.
 ghost use Rattle.std.specs.Prelude.{◌≡◌, ◌≤◌, ◌+◌, ◌++◌, [], length, drop, take, IfOk};
 
-use crate::window::compact;
+use crate::window::{compact, put_at};
 use rss_base::NoMemory;
 use std::alloc::Global;
 use std::marker::Model;
@@ -27,14 +27,6 @@ impl Model for Ready {
     ghost view = { λ r. drop r.start (take r.end r.bytes.items) };
 
     ghost invariant = { λ r. (r.start ≤ r.end) × (r.end ≤ READY) × (length r.bytes.items ≡ READY) };
-}
-
-// Writes a piece at a place.
-fn put_at(bytes: &mut [u8], at: usize, piece: &[u8])
-    requires { at + length piece.now ≤ length bytes.old }
-    ensures { take (at + length piece.now) bytes.new ≡ take at bytes.old ++ piece.now }
-{
-    bytes[at..at + piece.len()].copy_from_slice(piece);
 }
 
 impl Ready {

@@ -1,5 +1,4 @@
 use crate::breaks::front_break_at;
-use crate::options::resolution_in;
 use crate::scope::Scope;
 use crate::time::nanos_by;
 use crate::{ByteOrder, Interface, NgKind};
@@ -268,91 +267,6 @@ fn the_first_row_of_the_table_breaks_a_big_endian_block(rt: HostRuntime) -> Resu
         )? == None
     );
     Ok(())
-}
-
-#[test]
-fn the_first_time_resolution_counts(rt: HostRuntime) {
-    assert_eq!(rt;
-        resolution_in(ByteOrder::Little, &[9, 0, 1, 0, 9, 0, 0, 0]),
-        9
-    );
-    assert_eq!(rt;
-        resolution_in(
-            ByteOrder::Little,
-            &[
-                2, 0, 4, 0, 0x65, 0x74, 0x68, 0x30, 9, 0, 1, 0, 0x8a, 0, 0, 0, 9, 0, 1, 0, 3, 0, 0,
-                0
-            ]
-        ),
-        138
-    );
-    assert_eq!(rt;
-        resolution_in(ByteOrder::Little, &[0, 0, 0, 0, 9, 0, 1, 0, 3, 0, 0, 0]),
-        6
-    );
-    assert_eq!(rt;
-        resolution_in(
-            ByteOrder::Little,
-            &[9, 0, 2, 0, 3, 3, 0, 0, 9, 0, 1, 0, 3, 0, 0, 0]
-        ),
-        6
-    );
-    assert_eq!(rt;
-        resolution_in(
-            ByteOrder::Little,
-            &[
-                1, 0, 5, 0, 0x61, 0x62, 0x63, 0x64, 0x65, 0, 0, 0, 9, 0, 1, 0, 0, 0, 0, 0
-            ]
-        ),
-        0
-    );
-    assert_eq!(rt; resolution_in(ByteOrder::Little, &[9, 0, 1, 0]), 6);
-    assert_eq!(rt;
-        resolution_in(
-            ByteOrder::Little,
-            &[1, 0, 9, 0, 0x31, 0x32, 0x33, 0x34, 0x35, 0x36, 0x37, 0x38]
-        ),
-        6
-    );
-    assert_eq!(rt; resolution_in(ByteOrder::Big, &[0, 9, 0, 1, 9, 0, 0, 0]), 9);
-    assert_eq!(rt;
-        resolution_in(
-            ByteOrder::Big,
-            &[
-                0, 2, 0, 4, 0x65, 0x74, 0x68, 0x30, 0, 9, 0, 1, 0x8a, 0, 0, 0, 0, 9, 0, 1, 3, 0, 0,
-                0
-            ]
-        ),
-        138
-    );
-    assert_eq!(rt;
-        resolution_in(ByteOrder::Big, &[0, 0, 0, 0, 0, 9, 0, 1, 3, 0, 0, 0]),
-        6
-    );
-    assert_eq!(rt;
-        resolution_in(
-            ByteOrder::Big,
-            &[0, 9, 0, 2, 3, 3, 0, 0, 0, 9, 0, 1, 3, 0, 0, 0]
-        ),
-        6
-    );
-    assert_eq!(rt;
-        resolution_in(
-            ByteOrder::Big,
-            &[
-                0, 1, 0, 5, 0x61, 0x62, 0x63, 0x64, 0x65, 0, 0, 0, 0, 9, 0, 1, 0, 0, 0, 0
-            ]
-        ),
-        0
-    );
-    assert_eq!(rt; resolution_in(ByteOrder::Big, &[0, 9, 0, 1]), 6);
-    assert_eq!(rt;
-        resolution_in(
-            ByteOrder::Big,
-            &[0, 1, 0, 9, 0x31, 0x32, 0x33, 0x34, 0x35, 0x36, 0x37, 0x38]
-        ),
-        6
-    );
 }
 
 #[test]

@@ -40,6 +40,28 @@ pub fn compact(buffer: &mut Vec<u8>, start: usize, end: usize)
     buffer.copy_within(start..end, 0);
 }
 
+/// Writes a piece at a place.
+pub fn put_at(bytes: &mut [u8], at: usize, piece: &[u8])
+    requires { at + length piece.now ≤ length bytes.old }
+    ensures { take (at + length piece.now) bytes.new ≡ take at bytes.old ++ piece.now }
+{
+    bytes[at..at + piece.len()].copy_from_slice(piece);
+}
+
+/// One read, behind the first `at` bytes of a buffer.
+pub fn read_at<S: Source>(buffer: &mut [u8], at: usize, source: &mut S) -> Result<usize, Failed>
+    requires { at ≤ length buffer.old }
+    ensures front { take at buffer.new ≡ take at buffer.old }
+    ensures within { IfOk result (λ n. at + n ≤ length buffer.new) }
+    ensures bytes { IfOk result (λ n. Consumes (S.left source.old) (S.left source.new) (take n (drop at buffer.new))) }
+    ensures end { IfOk result (λ n. n ≡ 0 → at < length buffer.old → IsAtEnd (S.left source.new)) }
+    ensures err { OnErr result (Keeps (S.left source.old) (S.left source.new)) }
+    ensures cause { HasCause (S.faults source.old) (S.faults source.new) result }
+    ensures origin { S.origin source.new ≡ S.origin source.old }
+{
+    source.read(&mut buffer[at..])
+}
+
 // One read, behind the first `end` bytes.
 fn read_behind<S: Source>(buffer: &mut Vec<u8>, end: usize, source: &mut S) -> Result<usize, Failed>
     requires { end ≤ length buffer.old.items }
@@ -52,7 +74,7 @@ fn read_behind<S: Source>(buffer: &mut Vec<u8>, end: usize, source: &mut S) -> R
     ensures cause { HasCause (S.faults source.old) (S.faults source.new) result }
     ensures origin { S.origin source.new ≡ S.origin source.old }
 {
-    source.read(&mut buffer[end..])
+    read_at(buffer, end, source)
 }
 
 impl Window {
@@ -75,6 +97,18 @@ impl Window {
         ensures { result.now ≡ self.now }
     {
         &self.buffer[self.start..self.end]
+    }
+
+    /// Puts a piece behind what is there.
+    pub fn put(&mut self, piece: &[u8])
+        requires { length self.old + length piece.now ≤ ROOM }
+        ensures { self.new ≡ self.old ++ piece.now }
+    {
+        compact(&mut self.buffer, self.start, self.end);
+        let kept = self.end - self.start;
+        put_at(&mut self.buffer, kept, piece);
+        self.start = 0;
+        self.end = kept + piece.len();
     }
 
     /// Lets go of that many bytes at the front.
