@@ -24,7 +24,7 @@ use Rattle.command_words.specs.declared.option_name.OptionName.TheVariants.{Core
 use Rattle.command_words.specs.declared.values.Values.{Values}
 use Rattle.command_words.specs.declared.word_fault.WordFault.TheVariants as fault
 use Rattle.command_words.specs.Ranges.{IsAcceptedCommand, takes_values}
-use Rattle.command_words.specs.Reading.{Given, asks_unbuilt, built_command, command_of, given_by, if_built, read_buckets, read_command, read_cores, read_key, read_limit, read_mode, read_options, read_orders, read_packets, read_parts, read_pool, read_round, read_serial, read_start, read_values, read_work, serial_in}
+use Rattle.command_words.specs.Reading.{Given, command_of, given_by, read_buckets, read_command, read_cores, read_key, read_limit, read_mode, read_options, read_orders, read_packets, read_parts, read_pool, read_round, read_serial, read_start, read_values, read_work, serial_in}
 use Rattle.command_words.specs.Values.{bucket_count_in, key_in, no_values, number_within, orders_in, table_in, two_numbers, values_in}
 use Rattle.command_words.specs.Words.{Part, Text, parts_of}
 use Rattle.command_words.proofs.Apart.{both}
@@ -178,9 +178,9 @@ serial_fits t o h = go (number_within 0 MOST_NUMBER t) refl h
         let is : Some n ≡ o = cc in
         subst FitsSerial is (within 0 MOST_NUMBER t n e).1
 
--- a command that is built is in its ranges
-built_fits : (g : Given) (c : Command) → read_command g ≡ Ok c → asks_unbuilt c ≡ false → IsAcceptedCommand c
-built_fits g c h built =
+-- a command that is read is in its ranges
+read_fits : (g : Given) (c : Command) → read_command g ≡ Ok c → IsAcceptedCommand c
+read_fits g c h =
     let a = and_then_ok (read_mode g) _ c h in
     let b = and_then_ok (read_values a.0 g) _ c a.2 in
     let d = and_then_ok (read_options g) _ c b.2 in
@@ -203,17 +203,7 @@ built_fits g c h built =
       number = values.number;
       no_values = values.none;
       serial = serial;
-      built = subst (λ (d : Command). asks_unbuilt d ≡ false) (sym is) built;
     })
-
-built_fit : (g : Given) (c : Command) → built_command g ≡ Ok c → IsAcceptedCommand c
-built_fit g c h =
-    let read = and_then_ok (read_command g) if_built c h in
-    go (asks_unbuilt read.0) refl read.2 (built_fits g read.0 read.1)
-  where
-    go : {d : Command} (b : Bool) → asks_unbuilt d ≡ b → cond b (Err fault.NotBuilt) (Ok d) ≡ Ok c → (asks_unbuilt d ≡ false → IsAcceptedCommand d) → IsAcceptedCommand c
-    go true e i fits = let no : Err fault.NotBuilt ≡ Ok c = i in cc
-    go {d} false e i fits = let same : d ≡ c = ok_is d c i in subst IsAcceptedCommand same (fits e)
 
 -- what the words ask for is in range
 pub command_fits : (words : List Text) (c : Command) → command_of words ≡ Ok c → IsAcceptedCommand c
@@ -221,4 +211,4 @@ command_fits words c h = go (parts_of words) h
   where
     go : (o : Option (List Part)) → read_parts o ≡ Ok c → IsAcceptedCommand c
     go None e = let no : Err fault.Words ≡ Ok c = e in cc
-    go (Some ps) e = built_fit (given_by ps) c e
+    go (Some ps) e = read_fits (given_by ps) c e

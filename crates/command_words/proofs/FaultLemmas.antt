@@ -1,11 +1,11 @@
 -- No check behind the look answers that the words are refused as words.
-use Rattle.std.proofs.Common.{◌≡◌, ◌∙◌, ◌↔◌, Bool, cond, true, false, Option, Some, None, Result, Ok, Err, sym, ap, inl, inr}
+use Rattle.std.proofs.Common.{◌≡◌, ◌∙◌, ◌↔◌, Bool, true, false, Option, Some, None, Result, Ok, Err, sym, ap, inl, inr}
 use Rattle.std.specs.Option.{ok_or}
 use Rattle.command_words.specs.declared.command.Command.{Command}
 use Rattle.command_words.specs.declared.option_name.OptionName.{OptionName}
 use Rattle.command_words.specs.declared.word_fault.WordFault.{WordFault}
 use Rattle.command_words.specs.declared.word_fault.WordFault.TheVariants as fault
-use Rattle.command_words.specs.Reading.{Answers, Checked, Given, and_then, asks_unbuilt, built_command, if_built, option_or, read_buckets, read_command, read_cores, read_key, read_limit, read_mode, read_options, read_orders, read_packets, read_pool, read_round, read_serial, read_start, read_values, read_work}
+use Rattle.command_words.specs.Reading.{Answers, Checked, Given, and_then, option_or, read_buckets, read_command, read_cores, read_key, read_limit, read_mode, read_options, read_orders, read_packets, read_pool, read_round, read_serial, read_start, read_values, read_work}
 use Rattle.command_words.specs.Words.{Text}
 
 abbrev NeverWords : {X : Type 0} → Checked X → Type 0
@@ -49,21 +49,11 @@ by_command g =
     chain (read_options g) _ (by_options g) (λ options.
     chain (read_serial g) _ (search by_option) (λ serial. of_value _))))
 
-by_built : (c : Command) → NeverWords (if_built c)
-by_built c = go (asks_unbuilt c)
-  where
-    go : (b : Bool) → NeverWords {X = Command} (cond b (Err fault.NotBuilt) (Ok c))
-    go true = of_fault fault.NotBuilt (λ same. cc)
-    go false = of_value c
-
-never_words : (g : Given) → NeverWords (built_command g)
-never_words g = chain (read_command g) if_built (by_command g) by_built
-
 -- behind the look the answer is another
-pub not_words : (g : Given) (refused : Bool) (result : Result Command WordFault) → refused ≡ false → Answers (built_command g) result → (result ≡ Err fault.Words) ↔ (refused ≡ true)
+pub not_words : (g : Given) (refused : Bool) (result : Result Command WordFault) → refused ≡ false → Answers (read_command g) result → (result ≡ Err fault.Words) ↔ (refused ≡ true)
 not_words g refused result passed answers = (λ h. absurd (go result answers h), λ h. let no : false ≡ true = sym passed ∙ h in cc)
   where
-    go : (r : Result Command WordFault) → Answers (built_command g) r → r ≡ Err fault.Words → ⊥
+    go : (r : Result Command WordFault) → Answers (read_command g) r → r ≡ Err fault.Words → ⊥
     go (Ok c) a h = of_value c h
     go (Err e) (inl memory) h = let same : e ≡ fault.Words = cc in let no : fault.NoMemory ≡ fault.Words = sym memory ∙ same in cc
-    go (Err e) (inr read) h = never_words g (read ∙ h)
+    go (Err e) (inr read) h = by_command g (read ∙ h)

@@ -9,7 +9,7 @@ use Rattle.command_words.specs.declared.word_fault.WordFault.{WordFault}
 use Rattle.command_words.specs.declared.word_fault.WordFault.TheVariants as fault
 use Rattle.command_words.specs.Parsed.{GivesParts, flag_word}
 use Rattle.command_words.specs.Ranges.{IsAcceptedCommand}
-use Rattle.command_words.specs.Reading.{Answers, built_command, command_of, given_by, read_parts}
+use Rattle.command_words.specs.Reading.{Answers, command_of, given_by, read_command, read_parts}
 use Rattle.command_words.specs.Taken.{given_in}
 use Rattle.command_words.specs.Words.{Part, Text, has_flag, parts_of}
 use Rattle.command_words.proofs.CommandRanges.{command_fits}
@@ -39,13 +39,13 @@ refused_words words h = go (parts_of words) h
 
 -- what answers for matches of the words answers for the words
 pub read_by_matches : (words : List Text) (m : ArgMatches) (result : Result Command WordFault) → is_some (parts_of words) ≡ true
-    → ((ps : List Part) → parts_of words ≡ Some ps → GivesParts ps m) → Answers (built_command (given_in m)) result → Answers (command_of words) result
+    → ((ps : List Part) → parts_of words ≡ Some ps → GivesParts ps m) → Answers (read_command (given_in m)) result → Answers (command_of words) result
 read_by_matches words m result h gives answers = go (parts_of words) refl
   where
     go : (o : Option (List Part)) → parts_of words ≡ o → Answers (command_of words) result
     go None e = let no : false ≡ true = ap is_some (sym e) ∙ h in cc
     go (Some ps) e =
-        let same : built_command (given_in m) ≡ command_of words = ap built_command (given_same ps m (gives ps e)) ∙ sym (ap read_parts e) in
+        let same : read_command (given_in m) ≡ command_of words = ap read_command (given_same ps m (gives ps e)) ∙ sym (ap read_parts e) in
         subst (λ r. Answers r result) same answers
 
 pub accepted_by : (words : List Text) (result : Result Command WordFault) → Answers (command_of words) result → IfOk result IsAcceptedCommand

@@ -5,7 +5,6 @@ use Rattle.command_words.specs.declared.command.Command.{Command}
 use Rattle.command_words.specs.declared.limits.TheConstants.{MOST_COUNT, MOST_NUMBER}
 use Rattle.command_words.specs.declared.mode.Mode.{Mode}
 use Rattle.command_words.specs.declared.mode.Mode.TheVariants.{Demo, Make}
-use Rattle.command_words.specs.Reading.{asks_unbuilt}
 
 -- the mode has the values COUNT and NUMBER
 abbrev pub takes_values : Mode → Bool
@@ -20,4 +19,3 @@ pub record IsAcceptedCommand (c : Command) : Type 0 where
   pub number : c.number ≤ MOST_NUMBER
   pub no_values : takes_values c.mode ≡ false → (c.count ≡ 0) × (c.number ≡ 0)
   pub serial : IfSome c.serial (λ n. n ≤ MOST_NUMBER)
-  pub built : asks_unbuilt c ≡ false

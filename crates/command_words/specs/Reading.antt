@@ -170,31 +170,12 @@ read_command g =
       journal = g.journal;
     })))))
 
--- ---- what is built
-
--- the mode is `demo`
-abbrev pub is_demo : Mode → Bool
-is_demo mode.Demo = true
-is_demo _ = false
-
--- the command asks for what isn't built: `demo`, `--journal` or `--serial`
-abbrev pub asks_unbuilt : Command → Bool
-asks_unbuilt c = is_demo c.mode || c.journal || is_some c.serial
-
--- the command, where all that it asks for is built
-abbrev pub if_built : Command → Checked Command
-if_built c = if asks_unbuilt c then Err fault.NotBuilt else Ok c
-
--- the command that is asked for and built
-abbrev pub built_command : Given → Checked Command
-built_command g = and_then (read_command g) if_built
-
 -- ---- the whole reading
 
 -- words that have no parts are refused as words
 abbrev pub read_parts : Option (List Part) → Checked Command
 read_parts None = Err fault.Words
-read_parts (Some ps) = built_command (given_by ps)
+read_parts (Some ps) = read_command (given_by ps)
 
 -- the command that the words ask for, or their first fault
 abbrev pub command_of : List Text → Checked Command

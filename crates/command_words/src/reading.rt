@@ -1,7 +1,7 @@
 ghost use Rattle.std.specs.Prelude.{◌≡◌, ◌↔◌, IsTrue, IfOk, Err, map};
 ghost use Rattle.std.specs.String.{string_bytes};
 ghost use Rattle.command_words.specs.Ranges.{IsAcceptedCommand};
-ghost use Rattle.command_words.specs.Reading.{Answers, built_command, command_of, if_built, read_command};
+ghost use Rattle.command_words.specs.Reading.{Answers, command_of, read_command};
 ghost use Rattle.command_words.specs.Refusals.{is_refused};
 ghost use Rattle.command_words.specs.Taken.{given_in};
 
@@ -9,7 +9,7 @@ use crate::given::{journal, mode, serial, values};
 use crate::look::passes;
 use crate::parse::parse;
 use crate::run_options::run_options;
-use crate::{Command, Mode, WordFault};
+use crate::{Command, WordFault};
 use clap::ArgMatches;
 use std::alloc::Global;
 
@@ -32,25 +32,6 @@ fn command(alloc: Global, matches: &ArgMatches<'_>) -> Result<Command, WordFault
     })
 }
 
-// The command, where all that it asks for is built.
-fn if_built(command: Command) -> Result<Command, WordFault>
-    ensures { result ≡ if_built command }
-{
-    if command.mode == Mode::Demo || command.journal || command.serial.is_some() {
-        Err(WordFault::NotBuilt)
-    } else {
-        Ok(command)
-    }
-}
-
-// The same, where it is built.
-fn built_command(alloc: Global, matches: &ArgMatches<'_>) -> Result<Command, WordFault>
-    ensures { Answers (built_command (given_in matches.now)) result }
-{
-    let command = command(alloc, matches)?;
-    if_built(command)
-}
-
 /// The command that the words after the program's name ask for, or their first fault. Words that
 /// the look refuses take no memory.
 pub fn read_words(alloc: Global, words: &[String]) -> Result<Command, WordFault>
@@ -63,6 +44,6 @@ pub fn read_words(alloc: Global, words: &[String]) -> Result<Command, WordFault>
     }
     match parse(alloc, words) {
         Err(_) => Err(WordFault::NoMemory),
-        Ok(matches) => built_command(alloc, &matches),
+        Ok(matches) => command(alloc, &matches),
     }
 }

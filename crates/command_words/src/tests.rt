@@ -138,8 +138,7 @@ fn bad_numbers_of_a_run(rt: HostRuntime) {
     );
 }
 
-// The first bad option in the order of the table is answered, and each is checked before what
-// isn't built.
+// The first bad option in the order of the table is answered.
 #[test]
 fn options_are_checked_in_order(rt: HostRuntime) {
     let alloc = rt.alloc();
@@ -154,13 +153,21 @@ fn options_are_checked_in_order(rt: HostRuntime) {
 }
 
 #[test]
-fn accepted_words_may_ask_for_what_is_not_built(rt: HostRuntime) {
+fn words_at_their_bounds_are_accepted(rt: HostRuntime) {
     let alloc = rt.alloc();
-    assert_eq!(rt;
-        agree(alloc, &NOT_BUILT, Some(WordFault::NotBuilt)),
-        NOT_BUILT.len()
-    );
+    assert_eq!(rt; agree(alloc, &SCHEDULES, None), SCHEDULES.len());
     assert_eq!(rt; agree(alloc, &BOUNDS, None), BOUNDS.len());
+}
+
+#[test]
+fn a_schedule_and_a_journal_are_read(rt: HostRuntime) -> Result<(), Fail> {
+    let alloc = rt.alloc();
+    let command = read(alloc, "demo 007 1 --serial 3 --journal")?;
+    assert!(rt; command.mode == Mode::Demo && command.count == 7 && command.number == 1);
+    assert!(rt; command.serial == Some(3) && command.journal);
+    let plain = read(alloc, "report")?;
+    assert!(rt; plain.serial.is_none() && !plain.journal);
+    Ok(())
 }
 
 #[test]

@@ -14,6 +14,4 @@ pub enum WordFault {
     Values,
     /// The value of this option is none that it takes.
     Option { which: OptionName },
-    /// The words are accepted, and ask for what isn't built: `demo`, `--journal` or `--serial`.
-    NotBuilt,
 }

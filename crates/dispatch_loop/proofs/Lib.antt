@@ -19,3 +19,4 @@ pub mod Starts
 pub mod Tells
 pub mod Bearing
 pub mod Custodies
+pub mod Leaves

@@ -9,9 +9,10 @@ use Rattle.pcap_reader.specs.declared.form.Form.{Form}
 use Rattle.pcap_reader.specs.declared.reader.Progress.{Progress}
 use Rattle.pcap_reader.specs.declared.reader.Progress.TheVariants.{Going}
 use Rattle.pcap_reader.specs.Capture.{Captured, Ending, AtEnd, Breaks, Reads}
-use Rattle.pcap_reader.specs.Stream.{SoFar, Comes}
+use Rattle.pcap_reader.specs.Stream.{SoFar, Comes, Stops}
 use Rattle.pcap_reader.specs.Reading.{Reading, still, Proceeds, ProceedsFrom, Advances}
 use Rattle.pcap_reader.proofs.SoFar.{SoFar-end, SoFar-push, SoFar-break, SoFar-begins, left_at_end}
+use Rattle.pcap_reader.proofs.Taken.{SoFar-no_more, SoFar-stopped, SoFar-failed}
 use Rattle.dispatch_loop.specs.declared.dispatcher_end.DispatcherEnd.TheVariants as end
 use Rattle.dispatch_loop.specs.Past.{Past, IsReading, IsOver}
 use Rattle.dispatch_loop.specs.Packets.{packet_of, packets_in, ArePackets}
@@ -81,12 +82,14 @@ read_too_many limit p old new b n q h c many =
     let moved = subst (λ (x : Result (Option Captured) ReadError). Advances old new b n x) is.1 (advanced old new b n c.answer h.going c.proceeds) in
     let given = h.given in let few = h.few in
     let full : length h.records ≡ limit = omega arith in
-    let begins = SoFar-begins p.bytes (still new n) new.form (h.records ++ r ∷ []) (subst (λ (f : Form). SoFar p.bytes f (h.records ++ r ∷ []) (still new n)) (sym moved.form) (SoFar-push p.bytes (still old b) (still new n) old.form h.records r h.so_far moved.comes)) in
+    let pushed : SoFar p.bytes new.form (h.records ++ r ∷ []) (still new n) = subst (λ (f : Form). SoFar p.bytes f (h.records ++ r ∷ []) (still new n)) (sym moved.form) (SoFar-push p.bytes (still old b) (still new n) old.form h.records r h.so_far moved.comes) in
+    let begins = SoFar-begins p.bytes (still new n) new.form (h.records ++ r ∷ []) pushed in
     record {
       held_is = refl;
       ends = (refl, if_known p.bytes _ _ (λ bytes w. ((h.records ++ r ∷ []) ++ w.0, w.1, w.2, omega (arith, length-append (h.records ++ r ∷ []) w.0, length-append h.records (r ∷ [])))) begins);
       leaves = tt;
       all = if_known p.bytes _ _ (λ bytes w. ((h.records ++ r ∷ []) ++ w.0, w.1, w.2, too_many_packets limit p h.records r w.0 (are limit p old b h) full)) begins;
+      stops = λ refused. (h.records, (refl, full, (r, begins, SoFar-no_more p.bytes n new.form (h.records ++ r ∷ []) new.ahead pushed moved.ahead)));
     }
   where
     too_many_packets : (limit : ℕ) (p : Past) (rs : List Captured) (r : Captured) (more : List Captured) → map packet_of rs ≡ p.packets → length rs ≡ limit → p.packets ≡ take limit (map packet_of ((rs ++ r ∷ []) ++ more))
@@ -102,20 +105,30 @@ read_end limit p old new b n h c =
       ends = if_known p.bytes _ _ (λ bytes r. (h.records, r, h.few)) reads;
       leaves = left_at_end n new.ahead comes.1;
       all = if_known p.bytes _ _ (λ bytes r. all_of limit p h.records AtEnd bytes (are limit p old b h) h.few r) reads;
+      stops = λ refused. absurd (refused refl);
     }
 
 -- an error of the reader
 pub read_error : (limit : ℕ) (p : Past) (old new : Reading) (b n : Option (List ℕ)) (e : ReadError) → IsReading limit p None old b → Calls old new b n (Err e) → IsOver limit p None (end.Refused e) n
-read_error limit p old new b n e h c = by_error e (subst (λ (x : Result (Option Captured) ReadError). Comes old.form old.given (still old b) (still new n) x) (packets_err c.answer e c.is) (advanced old new b n c.answer h.going c.proceeds).comes)
+read_error limit p old new b n e h c =
+    let moved = subst (λ (x : Result (Option Captured) ReadError). Advances old new b n x) (packets_err c.answer e c.is) (advanced old new b n c.answer h.going c.proceeds) in
+    by_error e moved.comes moved.ahead
   where
-    by_error : (e : ReadError) → Comes old.form old.given (still old b) (still new n) (Err e) → IsOver limit p None (end.Refused e) n
-    by_error NoMemory comes = absurd comes
-    by_error ReadFault comes = record { held_is = refl; ends = tt; leaves = tt; all = tt }
-    by_error (Broken x) comes =
+    by_error : (e : ReadError) → Comes old.form old.given (still old b) (still new n) (Err e) → Stops old.form e (still old b) n → IsOver limit p None (end.Refused e) n
+    by_error NoMemory comes stopped = absurd comes
+    by_error ReadFault comes stopped = record {
+      held_is = refl;
+      ends = tt;
+      leaves = tt;
+      all = tt;
+      stops = λ refused. (h.records, (h.few, SoFar-failed p.bytes (still old b) n old.form h.records h.so_far stopped));
+    }
+    by_error (Broken x) comes stopped =
         let reads = SoFar-break p.bytes (still old b) old.form h.records old.given x h.so_far comes h.given in
         record {
           held_is = refl;
           ends = if_known p.bytes _ _ (λ bytes r. (h.records, r, h.few)) reads;
           leaves = tt;
           all = if_known p.bytes _ _ (λ bytes r. all_of limit p h.records (Breaks x) bytes (are limit p old b h) h.few r) reads;
+          stops = λ refused. (h.records, (h.few, reads, SoFar-stopped p.bytes (still old b) n old.form h.records (Broken x) h.so_far stopped));
         }

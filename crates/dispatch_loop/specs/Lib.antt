@@ -6,6 +6,7 @@ pub mod Face
 pub mod Asks
 pub mod Lanes
 pub mod Past
+pub mod Stops
 pub mod Scene
 pub mod Tied
 pub mod Desk

@@ -1,5 +1,5 @@
 -- The packets of a run that were read and sent so far.
-use Rattle.std.specs.Prelude.{◌≡◌, ◌≤◌, ℕ, List, [], ◌∷◌, ◌++◌, map, length, Option, Some, None, IfSome}
+use Rattle.std.specs.Prelude.{◌≡◌, ◌≢◌, ◌≤◌, ℕ, List, [], ◌∷◌, ◌++◌, map, length, Option, Some, None, IfSome}
 use Rattle.std.specs.Io.KnownBytes.{IsAtEnd}
 use Rattle.packet_fields.specs.declared.packet.PacketInfo.{PacketInfo}
 use Rattle.toeplitz.specs.Bucket.{bucket_of}
@@ -16,6 +16,7 @@ use Rattle.dispatch_loop.specs.declared.dispatcher_end.DispatcherEnd.TheVariants
 use Rattle.dispatch_loop.specs.Terms.{Terms, buckets_of}
 use Rattle.dispatch_loop.specs.Face.{Face}
 use Rattle.dispatch_loop.specs.Packets.{packet_of, ArePackets}
+use Rattle.dispatch_loop.specs.Stops.{StopsBy}
 
 -- what the source had left as its reader was started, where it told it, and the packets that were sent since, in order
 pub record Past : Type 0 where
@@ -76,12 +77,13 @@ pub record IsReading (limit : ℕ) (p : Past) (held : Option PacketInfo) (reader
   pub going : reader.progress ≡ Going
   pub so_far : SoFar p.bytes reader.form records (still reader left)
 
--- once it has ended: nothing is held, and the end is the stream's
+-- once it has ended: nothing is held, the end is the stream's, and where that is no end of a capture the reading stopped behind some records
 pub record IsOver (limit : ℕ) (p : Past) (held : Option PacketInfo) (end : DispatcherEnd) (left : Option (List ℕ)) : Type 0 where
   pub held_is : held ≡ None
   pub ends : EndsBy limit p.bytes end
   pub leaves : LeavesNone end left
   pub all : HasAll limit p.bytes p.packets end
+  pub stops : end ≢ AtEnd → (records : List Captured) × StopsBy limit p.bytes left records end
 
 abbrev pub IsFed : ℕ → Past → Option PacketInfo → Option DispatcherEnd → Reading → Option (List ℕ) → Type 0
 IsFed limit p held None reader left = IsReading limit p held reader left

@@ -1,5 +1,5 @@
 -- Which status comes, by what the words ask for and how the source's bytes end.
-use Rattle.std.proofs.Common.{◌≡◌, ◌⊎◌, inl, inr, ℕ, List, [], ◌∷◌, ◌++◌, length-append, arith, refl, sym, ap, subst, Option, None, Some, Result, Ok, Err, IfSome, OnOk, OnErr}
+use Rattle.std.proofs.Common.{◌≡◌, ◌⊎◌, ◌<◌, ◌≤◌, inl, inr, ℕ, List, [], ◌∷◌, ◌++◌, length-append, arith, refl, sym, ap, subst, Option, None, Some, Result, Ok, Err, IfSome, OnOk, OnErr}
 use Rattle.rss_base.specs.Faults.{NoneFailed, HasCause}
 use Rattle.rss_base.specs.Written.{Gets, GetsFront}
 use Rattle.std.proofs.lemmas.List.{append-nil}
@@ -18,9 +18,13 @@ use Rattle.command_words.specs.declared.word_fault.WordFault.TheVariants as word
 use Rattle.traffic_gen.specs.Traffic.{traffic}
 use Rattle.rsspp_main.specs.declared.fault.TopFault.{TopFault}
 use Rattle.rsspp_main.specs.declared.fault.TopFault.TheVariants.{Words, Capture, Line, ReadFault, WriteFault, NoMemory, TooMany}
-use Rattle.rsspp_main.specs.Answers.{Answers, Does, ReadsCapture, fault_of_word}
+use Rattle.rsspp_main.specs.Answers.{Answers, Does, NamesRun, NamesRunOf, ReadsCapture, fault_of_word}
 use Rattle.pcap_reader.specs.Taken.{BeginsWith}
-use Rattle.rsspp_main.specs.Gather.{Accepts, StopsWith}
+use Rattle.rsspp_run.specs.OneTable.{AreAll}
+use Rattle.rsspp_main.specs.Demo.{ExplainsDemo}
+use Rattle.rsspp_main.specs.Threads.{WritesRun}
+use Rattle.rsspp_main.specs.declared.trace.Trace.{Trace}
+use Rattle.rsspp_main.specs.Stops.{Accepts, StopsWith}
 use Rattle.rsspp_main.specs.Listing.{listing, ExplainsListing}
 use Rattle.rsspp_main.specs.Notes.{Says}
 use Rattle.rsspp_main.specs.Plan.{ExplainsPlan}
@@ -65,16 +69,20 @@ many_end limit n left now bytes records told s =
       omega (arith, s.1, length-append first whole.0, length-append records (next ∷ [])),
     )
 
-tells : (limit : ℕ) (text : List PacketInfo → List ℕ) (old new : Ends) (bytes : List ℕ) → old.left ≡ Some bytes → (fault : Option TopFault) → Explains limit text old new fault → Tells limit bytes old new fault
+-- the packets of a whole capture are all of it
+all_ends : (limit : ℕ) (left : Option (List ℕ)) (bytes : List ℕ) → left ≡ Some bytes → (all : List PacketInfo) → AreAll limit left all → EndsStream limit bytes stream.Whole
+all_ends limit left bytes told all a = (subst (λ (o : Option (List ℕ)). AreAll limit o all) told a).0
+
+tells : (limit : ℕ) (Writes : List PacketInfo → List ℕ → Type 0) (old new : Ends) (bytes : List ℕ) → old.left ≡ Some bytes → (fault : Option TopFault) → Explains limit Writes old new fault → Tells limit bytes old new fault
 unfolding Tells
-tells limit text old new bytes told None h = accepted_ends limit old.left bytes told h.0 h.1
-tells limit text old new bytes told (Some (Words w)) h = h
-tells limit text old new bytes told (Some (Line k)) h = h
-tells limit text old new bytes told (Some (Capture e)) h = broken_ends limit old.left new.left bytes h.0 e told h.1
-tells limit text old new bytes told (Some ReadFault) h = λ quiet. quiet h.3
-tells limit text old new bytes told (Some WriteFault) h = (accepted_ends limit old.left bytes told h.0.0 h.0.1, λ calm. calm h.1)
-tells limit text old new bytes told (Some NoMemory) h = tt
-tells limit text old new bytes told (Some (TooMany n)) h = many_end limit n old.left new.left bytes h.0 told h.1
+tells limit Writes old new bytes told None h = all_ends limit old.left bytes told h.0.0 h.0.2.0
+tells limit Writes old new bytes told (Some (Words w)) h = h
+tells limit Writes old new bytes told (Some (Line k)) h = h
+tells limit Writes old new bytes told (Some (Capture e)) h = broken_ends limit old.left new.left bytes h.0.0 e told h.0.1
+tells limit Writes old new bytes told (Some ReadFault) h = λ quiet. quiet h.1
+tells limit Writes old new bytes told (Some WriteFault) h = (all_ends limit old.left bytes told h.0.0 h.0.2.0, λ calm. calm h.1)
+tells limit Writes old new bytes told (Some NoMemory) h = tt
+tells limit Writes old new bytes told (Some (TooMany n)) h = many_end limit n old.left new.left bytes h.0.0 told h.0.1
 
 -- the same of a listing
 tells_listing : (limit : ℕ) (text : List PacketInfo → List ℕ) (old new : Ends) (bytes : List ℕ) → old.left ≡ Some bytes → (fault : Option TopFault) → ExplainsListing limit text old new fault → Tells limit bytes old new fault
@@ -122,43 +130,43 @@ too_many_by limit old new bytes end quiet (Some NoMemory) t = inr refl
 too_many_by limit old new bytes end quiet (Some (TooMany n)) t = inl refl
 
 -- the end of the stream that a mode about a capture tells
-does_tell : (m : Mode) (c : Command) (old new : Ends) (fault : Option TopFault) → ReadsCapture m → Does m c old new fault → (bytes : List ℕ) → old.left ≡ Some bytes → Tells c.options.packets bytes old new fault
-does_tell mode.Report c old new fault asks d bytes told = tells c.options.packets (report_by c.options.work) old new bytes told fault d
-does_tell mode.Hash c old new fault asks d bytes told = tells_listing c.options.packets (listing c.options.key c.options.start.owners) old new bytes told fault d
-does_tell mode.Plan c old new fault asks d bytes told = absurd asks
-does_tell mode.Make c old new fault asks d bytes told = absurd asks
-does_tell mode.Demo c old new fault asks d bytes told = absurd asks
+does_tell : (packets : Option (List PacketInfo)) (told : Option Trace) (m : Mode) (c : Command) (old new : Ends) (fault : Option TopFault) → ReadsCapture m → Does packets told m c old new fault → (bytes : List ℕ) → old.left ≡ Some bytes → Tells c.options.packets bytes old new fault
+does_tell packets run mode.Report c old new fault asks d bytes told = tells c.options.packets (WritesRun packets c c.serial run) old new bytes told fault d.0
+does_tell packets run mode.Hash c old new fault asks d bytes told = tells_listing c.options.packets (listing c.options.key c.options.start.owners) old new bytes told fault d.0
+does_tell packets run mode.Plan c old new fault asks d bytes told = absurd asks
+does_tell packets run mode.Make c old new fault asks d bytes told = absurd asks
+does_tell packets run mode.Demo c old new fault asks d bytes told = absurd asks
 
 -- want of memory, or what the mode says
-of_command : (r : Result Command WordFault) (c : Command) (old new : Ends) (fault : Option TopFault) → Answers r old new fault → r ≡ Ok c → (fault ≡ Some NoMemory) ⊎ Does c.mode c old new fault
-of_command r c old new fault a is = by_answer (subst (λ (r : Result Command WordFault). Answers r old new fault) is a)
+of_command : (packets : Option (List PacketInfo)) (told : Option Trace) (r : Result Command WordFault) (c : Command) (old new : Ends) (fault : Option TopFault) → Answers packets told r old new fault → r ≡ Ok c → (fault ≡ Some NoMemory) ⊎ Does packets told c.mode c old new fault
+of_command packets told r c old new fault a is = by_answer (subst (λ (r : Result Command WordFault). Answers packets told r old new fault) is a)
   where
-    by_answer : Answers (Ok c) old new fault → (fault ≡ Some NoMemory) ⊎ Does c.mode c old new fault
+    by_answer : Answers packets told (Ok c) old new fault → (fault ≡ Some NoMemory) ⊎ Does packets told c.mode c old new fault
     by_answer (inl lack) = inl lack.0
     by_answer (inr d) = inr d
 
 six : (fault : Option TopFault) → fault ≡ Some NoMemory → status_of fault ≡ 6
 six fault e = ap status_of e
 
-pub done : (r : Result Command WordFault) (old new : Ends) (fault : Option TopFault) → Answers r old new fault →
+pub done : (packets : Option (List PacketInfo)) (told : Option Trace) (r : Result Command WordFault) (old new : Ends) (fault : Option TopFault) → Answers packets told r old new fault →
     (c : Command) (bytes : List ℕ) → r ≡ Ok c → ReadsCapture c.mode → old.left ≡ Some bytes → EndsStream c.options.packets bytes stream.Whole → NoneFailed old.read_faults new.read_faults → NoneFailed old.write_faults new.write_faults → (status_of fault ≡ 0) ⊎ (status_of fault ≡ 6)
-done r old new fault a c bytes is asks told end quiet calm = elim (of_command r c old new fault a is) [
+done packets run r old new fault a c bytes is asks told end quiet calm = elim (of_command packets run r c old new fault a is) [
   | inl lack ↦ inr (six fault lack)
-  | inr d ↦ done_by c.options.packets old new bytes end quiet calm fault (does_tell c.mode c old new fault asks d bytes told)
+  | inr d ↦ done_by c.options.packets old new bytes end quiet calm fault (does_tell packets run c.mode c old new fault asks d bytes told)
 ]
 
-pub broken : (r : Result Command WordFault) (old new : Ends) (fault : Option TopFault) → Answers r old new fault →
+pub broken : (packets : Option (List PacketInfo)) (told : Option Trace) (r : Result Command WordFault) (old new : Ends) (fault : Option TopFault) → Answers packets told r old new fault →
     (c : Command) (bytes : List ℕ) (e : Break) → r ≡ Ok c → ReadsCapture c.mode → old.left ≡ Some bytes → EndsStream c.options.packets bytes (stream.Broken e) → NoneFailed old.read_faults new.read_faults → (status_of fault ≡ 3) ⊎ (status_of fault ≡ 6)
-broken r old new fault a c bytes e is asks told end quiet = elim (of_command r c old new fault a is) [
+broken packets run r old new fault a c bytes e is asks told end quiet = elim (of_command packets run r c old new fault a is) [
   | inl lack ↦ inr (six fault lack)
-  | inr d ↦ broken_by c.options.packets old new bytes e end quiet fault (does_tell c.mode c old new fault asks d bytes told)
+  | inr d ↦ broken_by c.options.packets old new bytes e end quiet fault (does_tell packets run c.mode c old new fault asks d bytes told)
 ]
 
-pub too_many : (r : Result Command WordFault) (old new : Ends) (fault : Option TopFault) → Answers r old new fault →
+pub too_many : (packets : Option (List PacketInfo)) (told : Option Trace) (r : Result Command WordFault) (old new : Ends) (fault : Option TopFault) → Answers packets told r old new fault →
     (c : Command) (bytes : List ℕ) → r ≡ Ok c → ReadsCapture c.mode → old.left ≡ Some bytes → EndsStream c.options.packets bytes stream.TooMany → NoneFailed old.read_faults new.read_faults → (status_of fault ≡ 7) ⊎ (status_of fault ≡ 6)
-too_many r old new fault a c bytes is asks told end quiet = elim (of_command r c old new fault a is) [
+too_many packets run r old new fault a c bytes is asks told end quiet = elim (of_command packets run r c old new fault a is) [
   | inl lack ↦ inr (six fault lack)
-  | inr d ↦ too_many_by c.options.packets old new bytes end quiet fault (does_tell c.mode c old new fault asks d bytes told)
+  | inr d ↦ too_many_by c.options.packets old new bytes end quiet fault (does_tell packets run c.mode c old new fault asks d bytes told)
 ]
 
 made_by : (text : List ℕ) (old new : Ends) → NoneFailed old.write_faults new.write_faults → (fault : Option TopFault) → ExplainsText text old new fault → status_of fault ≡ 0
@@ -171,11 +179,45 @@ made_by text old new calm (Some WriteFault) h = absurd (calm h.1)
 made_by text old new calm (Some NoMemory) h = absurd h
 made_by text old new calm (Some (TooMany n)) h = absurd h
 
-pub made : (r : Result Command WordFault) (old new : Ends) (fault : Option TopFault) → Answers r old new fault →
+pub made : (packets : Option (List PacketInfo)) (told : Option Trace) (r : Result Command WordFault) (old new : Ends) (fault : Option TopFault) → Answers packets told r old new fault →
     (c : Command) → r ≡ Ok c → c.mode ≡ mode.Make → NoneFailed old.write_faults new.write_faults → (status_of fault ≡ 0) ⊎ (status_of fault ≡ 6)
-made r old new fault a c is asks calm = elim (of_command r c old new fault a is) [
+made packets told r old new fault a c is asks calm = elim (of_command packets told r c old new fault a is) [
   | inl lack ↦ inr (six fault lack)
-  | inr d ↦ inl (made_by (traffic c.count c.number) old new calm fault (subst (λ (m : Mode). Does m c old new fault) asks d))
+  | inr d ↦ inl (made_by (traffic c.count c.number) old new calm fault (subst (λ (m : Mode). Does packets told m c old new fault) asks d).0)
+]
+
+shown_by : (packets : Option (List PacketInfo)) (report_of : List PacketInfo → List ℕ) (c : Command) (old new : Ends) → c.count ≤ c.options.packets → NoneFailed old.write_faults new.write_faults → (fault : Option TopFault) → ExplainsDemo packets report_of c old new fault → (status_of fault ≡ 0) ⊎ (status_of fault ≡ 6)
+shown_by packets report_of c old new few calm None h = inl refl
+shown_by packets report_of c old new few calm (Some (Words w)) h = absurd h
+shown_by packets report_of c old new few calm (Some (Capture e)) h = absurd h
+shown_by packets report_of c old new few calm (Some (Line k)) h = absurd h
+shown_by packets report_of c old new few calm (Some ReadFault) h = absurd h
+shown_by packets report_of c old new few calm (Some WriteFault) h = absurd (calm h.5)
+shown_by packets report_of c old new few calm (Some NoMemory) h = inr refl
+shown_by packets report_of c old new few calm (Some (TooMany n)) h = absurd (let more = h.1 in omega arith)
+
+pub shown : (packets : Option (List PacketInfo)) (told : Option Trace) (r : Result Command WordFault) (old new : Ends) (fault : Option TopFault) → Answers packets told r old new fault →
+    (c : Command) → r ≡ Ok c → c.mode ≡ mode.Demo → c.count ≤ c.options.packets → NoneFailed old.write_faults new.write_faults → (status_of fault ≡ 0) ⊎ (status_of fault ≡ 6)
+shown packets told r old new fault a c is asks few calm = elim (of_command packets told r c old new fault a is) [
+  | inl lack ↦ inr (six fault lack)
+  | inr d ↦ shown_by packets (report_by c.options.work) c old new few calm fault (subst (λ (m : Mode). Does packets told m c old new fault) asks d).0
+]
+
+long_by : (packets : Option (List PacketInfo)) (report_of : List PacketInfo → List ℕ) (c : Command) (old new : Ends) → c.options.packets < c.count → (fault : Option TopFault) → ExplainsDemo packets report_of c old new fault → (status_of fault ≡ 7) ⊎ (status_of fault ≡ 6)
+long_by packets report_of c old new more None h = absurd (let few = h.0 in omega arith)
+long_by packets report_of c old new more (Some (Words w)) h = absurd h
+long_by packets report_of c old new more (Some (Capture e)) h = absurd h
+long_by packets report_of c old new more (Some (Line k)) h = absurd h
+long_by packets report_of c old new more (Some ReadFault) h = absurd h
+long_by packets report_of c old new more (Some WriteFault) h = absurd (let few = h.0 in omega arith)
+long_by packets report_of c old new more (Some NoMemory) h = inr refl
+long_by packets report_of c old new more (Some (TooMany n)) h = inl refl
+
+pub too_long : (packets : Option (List PacketInfo)) (told : Option Trace) (r : Result Command WordFault) (old new : Ends) (fault : Option TopFault) → Answers packets told r old new fault →
+    (c : Command) → r ≡ Ok c → c.mode ≡ mode.Demo → c.options.packets < c.count → (status_of fault ≡ 7) ⊎ (status_of fault ≡ 6)
+too_long packets told r old new fault a c is asks more = elim (of_command packets told r c old new fault a is) [
+  | inl lack ↦ inr (six fault lack)
+  | inr d ↦ long_by packets (report_by c.options.work) c old new more fault (subst (λ (m : Mode). Does packets told m c old new fault) asks d).0
 ]
 
 planned_by : (old new : Ends) (bytes : List ℕ) (p : Instance) → old.left ≡ Some bytes → instance_of bytes ≡ Ok p → NoneFailed old.read_faults new.read_faults → NoneFailed old.write_faults new.write_faults → (fault : Option TopFault) → ExplainsPlan old new fault → (status_of fault ≡ 0) ⊎ (status_of fault ≡ 6)
@@ -188,11 +230,11 @@ planned_by old new bytes p told spells quiet calm (Some WriteFault) h = absurd (
 planned_by old new bytes p told spells quiet calm (Some NoMemory) h = inr refl
 planned_by old new bytes p told spells quiet calm (Some (TooMany n)) h = absurd h
 
-pub planned : (r : Result Command WordFault) (old new : Ends) (fault : Option TopFault) → Answers r old new fault →
+pub planned : (packets : Option (List PacketInfo)) (told : Option Trace) (r : Result Command WordFault) (old new : Ends) (fault : Option TopFault) → Answers packets told r old new fault →
     (c : Command) (bytes : List ℕ) (p : Instance) → r ≡ Ok c → c.mode ≡ mode.Plan → old.left ≡ Some bytes → instance_of bytes ≡ Ok p → NoneFailed old.read_faults new.read_faults → NoneFailed old.write_faults new.write_faults → (status_of fault ≡ 0) ⊎ (status_of fault ≡ 6)
-planned r old new fault a c bytes p is asks told spells quiet calm = elim (of_command r c old new fault a is) [
+planned packets run r old new fault a c bytes p is asks told spells quiet calm = elim (of_command packets run r c old new fault a is) [
   | inl lack ↦ inr (six fault lack)
-  | inr d ↦ planned_by old new bytes p told spells quiet calm fault (subst (λ (m : Mode). Does m c old new fault) asks d)
+  | inr d ↦ planned_by old new bytes p told spells quiet calm fault (subst (λ (m : Mode). Does packets run m c old new fault) asks d).0
 ]
 
 bad_line_by : (old new : Ends) (bytes : List ℕ) (line : ℕ) → old.left ≡ Some bytes → instance_of bytes ≡ Err line → NoneFailed old.read_faults new.read_faults → (fault : Option TopFault) → ExplainsPlan old new fault → (status_of fault ≡ 3) ⊎ (status_of fault ≡ 6)
@@ -205,30 +247,30 @@ bad_line_by old new bytes line told bad quiet (Some WriteFault) h = let good = k
 bad_line_by old new bytes line told bad quiet (Some NoMemory) h = inr refl
 bad_line_by old new bytes line told bad quiet (Some (TooMany n)) h = absurd h
 
-pub bad_line : (r : Result Command WordFault) (old new : Ends) (fault : Option TopFault) → Answers r old new fault →
+pub bad_line : (packets : Option (List PacketInfo)) (told : Option Trace) (r : Result Command WordFault) (old new : Ends) (fault : Option TopFault) → Answers packets told r old new fault →
     (c : Command) (bytes : List ℕ) (line : ℕ) → r ≡ Ok c → c.mode ≡ mode.Plan → old.left ≡ Some bytes → instance_of bytes ≡ Err line → NoneFailed old.read_faults new.read_faults → (status_of fault ≡ 3) ⊎ (status_of fault ≡ 6)
-bad_line r old new fault a c bytes line is asks told bad quiet = elim (of_command r c old new fault a is) [
+bad_line packets run r old new fault a c bytes line is asks told bad quiet = elim (of_command packets run r c old new fault a is) [
   | inl lack ↦ inr (six fault lack)
-  | inr d ↦ bad_line_by old new bytes line told bad quiet fault (subst (λ (m : Mode). Does m c old new fault) asks d)
+  | inr d ↦ bad_line_by old new bytes line told bad quiet fault (subst (λ (m : Mode). Does packets run m c old new fault) asks d).0
 ]
 
 -- words that are refused
-pub refused : (r : Result Command WordFault) (old new : Ends) (fault : Option TopFault) → Answers r old new fault → (e : WordFault) → r ≡ Err e → (status_of fault ≡ 2) ⊎ (status_of fault ≡ 6)
-refused r old new fault a e is = by_answer (subst (λ (r : Result Command WordFault). Answers r old new fault) is a)
+pub refused : (packets : Option (List PacketInfo)) (told : Option Trace) (r : Result Command WordFault) (old new : Ends) (fault : Option TopFault) → Answers packets told r old new fault → (e : WordFault) → r ≡ Err e → (status_of fault ≡ 2) ⊎ (status_of fault ≡ 6)
+refused packets told r old new fault a e is = by_answer (subst (λ (r : Result Command WordFault). Answers packets told r old new fault) is a)
   where
-    by_answer : Answers (Err e) old new fault → (status_of fault ≡ 2) ⊎ (status_of fault ≡ 6)
+    by_answer : Answers packets told (Err e) old new fault → (status_of fault ≡ 2) ⊎ (status_of fault ≡ 6)
     by_answer h = elim h.0 [ inl w ↦ inl (ap status_of w) | inr lack ↦ inr (six fault lack) ]
 
 -- no mode refuses words
-explains_none : (limit : ℕ) (text : List PacketInfo → List ℕ) (old new : Ends) (fault : Option TopFault) → Explains limit text old new fault → status_of fault ≡ 2 → ⊥
-explains_none limit text old new None h e = cc
-explains_none limit text old new (Some (Words w)) h e = h
-explains_none limit text old new (Some (Capture f)) h e = cc
-explains_none limit text old new (Some (Line k)) h e = h
-explains_none limit text old new (Some (TooMany n)) h e = cc
-explains_none limit text old new (Some ReadFault) h e = cc
-explains_none limit text old new (Some WriteFault) h e = cc
-explains_none limit text old new (Some NoMemory) h e = cc
+explains_none : (limit : ℕ) (Writes : List PacketInfo → List ℕ → Type 0) (old new : Ends) (fault : Option TopFault) → Explains limit Writes old new fault → status_of fault ≡ 2 → ⊥
+explains_none limit Writes old new None h e = cc
+explains_none limit Writes old new (Some (Words w)) h e = h
+explains_none limit Writes old new (Some (Capture f)) h e = cc
+explains_none limit Writes old new (Some (Line k)) h e = h
+explains_none limit Writes old new (Some (TooMany n)) h e = cc
+explains_none limit Writes old new (Some ReadFault) h e = cc
+explains_none limit Writes old new (Some WriteFault) h e = cc
+explains_none limit Writes old new (Some NoMemory) h e = cc
 
 listing_none : (limit : ℕ) (text : List PacketInfo → List ℕ) (old new : Ends) (fault : Option TopFault) → ExplainsListing limit text old new fault → status_of fault ≡ 2 → ⊥
 listing_none limit text old new None h e = cc
@@ -260,26 +302,48 @@ plan_none old new (Some ReadFault) h e = cc
 plan_none old new (Some WriteFault) h e = cc
 plan_none old new (Some NoMemory) h e = cc
 
-does_none : (m : Mode) (c : Command) (old new : Ends) (fault : Option TopFault) → Does m c old new fault → status_of fault ≡ 2 → ⊥
-does_none mode.Report c old new fault d e = explains_none c.options.packets (report_by c.options.work) old new fault d e
-does_none mode.Hash c old new fault d e = listing_none c.options.packets (listing c.options.key c.options.start.owners) old new fault d e
-does_none mode.Plan c old new fault d e = plan_none old new fault d e
-does_none mode.Make c old new fault d e = text_none (traffic c.count c.number) old new fault d e
-does_none mode.Demo c old new fault d e = d
+demo_none : (packets : Option (List PacketInfo)) (report_of : List PacketInfo → List ℕ) (c : Command) (old new : Ends) (fault : Option TopFault) → ExplainsDemo packets report_of c old new fault → status_of fault ≡ 2 → ⊥
+demo_none packets report_of c old new None h e = cc
+demo_none packets report_of c old new (Some (Words w)) h e = h
+demo_none packets report_of c old new (Some (Capture f)) h e = h
+demo_none packets report_of c old new (Some (Line k)) h e = h
+demo_none packets report_of c old new (Some (TooMany n)) h e = cc
+demo_none packets report_of c old new (Some ReadFault) h e = h
+demo_none packets report_of c old new (Some WriteFault) h e = cc
+demo_none packets report_of c old new (Some NoMemory) h e = cc
 
-pub words : (r : Result Command WordFault) (old new : Ends) (fault : Option TopFault) → Answers r old new fault → status_of fault ≡ 2 → (e : WordFault) × (r ≡ Err e)
-words (Err e) old new fault a two = (e, refl)
-words (Ok c) old new fault (inl lack) two = absurd (let memory = ap status_of lack.0 in cc)
-words (Ok c) old new fault (inr d) two = absurd (does_none c.mode c old new fault d two)
+does_none : (packets : Option (List PacketInfo)) (told : Option Trace) (m : Mode) (c : Command) (old new : Ends) (fault : Option TopFault) → Does packets told m c old new fault → status_of fault ≡ 2 → ⊥
+does_none packets told mode.Report c old new fault d e = explains_none c.options.packets (WritesRun packets c c.serial told) old new fault d.0 e
+does_none packets told mode.Hash c old new fault d e = listing_none c.options.packets (listing c.options.key c.options.start.owners) old new fault d.0 e
+does_none packets told mode.Plan c old new fault d e = plan_none old new fault d.0 e
+does_none packets told mode.Make c old new fault d e = text_none (traffic c.count c.number) old new fault d.0 e
+does_none packets told mode.Demo c old new fault d e = demo_none packets (report_by c.options.work) c old new fault d.0 e
+
+pub words : (packets : Option (List PacketInfo)) (told : Option Trace) (r : Result Command WordFault) (old new : Ends) (fault : Option TopFault) → Answers packets told r old new fault → status_of fault ≡ 2 → (e : WordFault) × (r ≡ Err e)
+words packets told (Err e) old new fault a two = (e, refl)
+words packets told (Ok c) old new fault (inl lack) two = absurd (let memory = ap status_of lack.0 in cc)
+words packets told (Ok c) old new fault (inr d) two = absurd (does_none packets told c.mode c old new fault d two)
+
+-- a run without a name may be of any words
+pub none_named : (r : Result Command WordFault) (left : Option (List ℕ)) → NamesRun None r left
+none_named (Err e) left = tt
+none_named (Ok c) left = by_mode c.mode
+  where
+    by_mode : (m : Mode) → NamesRunOf None m c left
+    by_mode mode.Report = tt
+    by_mode mode.Hash = tt
+    by_mode mode.Plan = tt
+    by_mode mode.Make = tt
+    by_mode mode.Demo = tt
 
 -- words that gave no command
-pub unread : (r : Result Command WordFault) (old new : Ends) (e : WordFault) → Untouched old new → (e ≡ word.NoMemory) ⊎ (r ≡ Err e) → Answers r old new (Some (fault_of_word e))
-unread r old new e u (inl lack) = rw lack (of_any r)
+pub unread : (packets : Option (List PacketInfo)) (r : Result Command WordFault) (old new : Ends) (e : WordFault) → Untouched old new → (e ≡ word.NoMemory) ⊎ (r ≡ Err e) → Answers packets None r old new (Some (fault_of_word e))
+unread packets r old new e u (inl lack) = rw lack (of_any r)
   where
-    of_any : (r : Result Command WordFault) → Answers r old new (Some NoMemory)
-    of_any (Ok c) = inl (refl, u)
-    of_any (Err f) = (inr refl, u)
-unread r old new e u (inr is) = rw is (of_fault e, u)
+    of_any : (r : Result Command WordFault) → Answers packets None r old new (Some NoMemory)
+    of_any (Ok c) = inl (refl, u, refl)
+    of_any (Err f) = (inr refl, u, refl)
+unread packets r old new e u (inr is) = rw is (of_fault e, u, refl)
   where
     of_fault : (e : WordFault) → (◌≡◌ {A = Option TopFault} (Some (fault_of_word e)) (Some (Words e))) ⊎ (◌≡◌ {A = Option TopFault} (Some (fault_of_word e)) (Some NoMemory))
     of_fault word.NoMemory = inr refl
@@ -287,4 +351,3 @@ unread r old new e u (inr is) = rw is (of_fault e, u)
     of_fault word.Mode = inl refl
     of_fault word.Values = inl refl
     of_fault (word.Option which) = inl refl
-    of_fault word.NotBuilt = inl refl

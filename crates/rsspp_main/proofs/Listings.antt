@@ -12,7 +12,7 @@ use Rattle.packet_fields.specs.declared.packet.PacketInfo.{PacketInfo}
 use Rattle.toeplitz.specs.declared.key.Key.{Key}
 use Rattle.rsspp_main.specs.declared.fault.TopFault.{TopFault}
 use Rattle.rsspp_main.specs.declared.fault.TopFault.TheVariants.{Words, Capture, Line, ReadFault, WriteFault, NoMemory, TooMany}
-use Rattle.rsspp_main.specs.Gather.{Accepts, MayFail, StopsWith, top_fault}
+use Rattle.rsspp_main.specs.Stops.{Accepts, MayFail, StopsWith, top_fault}
 use Rattle.rsspp_main.specs.Listing.{hash_line, listing, listing_from, IsListed, Listed, ExplainsListing}
 use Rattle.dispatch_loop.specs.Packets.{packet_of}
 use Rattle.rsspp_main.specs.Run.{Ends, NoReadFailed, Untouched}

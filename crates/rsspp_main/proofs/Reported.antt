@@ -1,36 +1,52 @@
--- From the tables of a capture to the outcome of its report.
-use Rattle.std.proofs.Common.{◌≡◌, ◌⊎◌, inl, inr, ℕ, List, map, sym, subst, Some}
-use Rattle.std.specs.Io.KnownBytes.{IsAtEnd}
+-- From the answers of a run and of its report to what they explain.
+use Rattle.std.proofs.Common.{◌≡◌, ◌⊎◌, inl, inr, ℕ, List, refl, sym, subst, Option, None, Some, Result}
+use Rattle.std.specs.Prelude.{MatchResult}
 use Rattle.rss_base.specs.Written.{GetsFront}
-use Rattle.pcap_reader.specs.Capture.{Captured}
 use Rattle.packet_fields.specs.declared.packet.PacketInfo.{PacketInfo}
-use Rattle.flow_report.specs.Cause.{Blames}
+use Rattle.flow_report.specs.Cause as writing
 use Rattle.flow_report.specs.declared.fault.ReportFault.{ReportFault}
-use Rattle.flow_report.specs.declared.fault.ReportFault.TheVariants as writing
+use Rattle.flow_report.specs.declared.fault.ReportFault.TheVariants as report
+use Rattle.rsspp_run.specs.Refused.{Refuses, Blames}
+use Rattle.rsspp_run.specs.declared.run_end.RunFault.{RunFault}
+use Rattle.rsspp_run.specs.declared.run_end.RunFault.TheVariants.{Capture, ReadFault, TooMany, NoMemory}
+use Rattle.flow_work.specs.declared.work_name.WorkName.{WorkName}
+use Rattle.dispatch_loop.specs.Terms.{terms_of}
+use Rattle.command_words.specs.declared.command.Command.{Command}
 use Rattle.rsspp_main.specs.declared.fault.TopFault.{TopFault}
-use Rattle.rsspp_main.specs.declared.fault.TopFault.TheVariants.{Words, Capture, Line, ReadFault, WriteFault, NoMemory, TooMany}
-use Rattle.rsspp_main.specs.Gather.{Accepts, MayFail, StopsWith, report_fault}
-use Rattle.dispatch_loop.specs.Packets.{packet_of}
-use Rattle.rsspp_main.specs.Run.{Ends, Explains, NoReadFailed, NoWriteFailed, Silent, Untouched}
+use Rattle.rsspp_main.specs.Demo.{ExplainsDemo}
+use Rattle.rsspp_main.specs.Reports.{IsSerialText, WritesSerial, run_fault, report_fault}
+use Rattle.rsspp_main.specs.Run.{Ends, Explains, HasRead, NoReadFailed, NoWriteFailed, Silent, Untouched, report_by}
 
--- a reading that stopped, where nothing was written
-pub stopped : (limit : ℕ) (text : List PacketInfo → List ℕ) (old new : Ends) (fault : TopFault) (records : List Captured) → StopsWith limit old.left new.left records fault → Silent old new → MayFail fault old.read_faults new.read_faults → NoWriteFailed old new → Explains limit text old new (Some fault)
-stopped limit text old new (Capture e) records s silent may calm = (records, s, silent, record { reads = may; writes = calm })
-stopped limit text old new (TooMany n) records s silent may calm = (records, s, silent, record { reads = may; writes = calm })
-stopped limit text old new ReadFault records s silent may calm = (records, s, silent, may, calm)
-stopped limit text old new NoMemory records s silent may calm = absurd s
-stopped limit text old new WriteFault records s silent may calm = absurd s
-stopped limit text old new (Line k) records s silent may calm = absurd s
-stopped limit text old new (Words w) records s silent may calm = absurd s
+-- a run that was refused, where nothing was written
+pub refused : (limit : ℕ) (Writes : List PacketInfo → List ℕ → Type 0) (old new : Ends) (fault : RunFault) → Refuses limit old.left new.left fault → Blames fault old.read_faults new.read_faults
+    → (fault ≡ NoMemory → Untouched old new ⊎ ((all : List PacketInfo) × HasRead limit old new all)) → Silent old new → NoWriteFailed old new → Explains limit Writes old new (Some (run_fault fault))
+refused limit Writes old new (Capture e) stops blames memory silent calm = ((stops.0, stops.1, silent), record { reads = blames; writes = calm })
+refused limit Writes old new (TooMany n) stops blames memory silent calm = ((stops.0, stops.1, silent), record { reads = blames; writes = calm })
+refused limit Writes old new ReadFault stops blames memory silent calm = ((stops.0, stops.1, silent), blames, calm)
+refused limit Writes old new NoMemory stops blames memory silent calm = elim (memory refl) [
+  | inl same ↦ inl same
+  | inr read ↦ inr (inl (read.0, read.1, silent, record { reads = blames; writes = calm }))
+]
 
--- no tables, where nothing was written
-pub no_tables : (limit : ℕ) (text : List PacketInfo → List ℕ) (old new : Ends) (fault : TopFault) (Before : Type 0)
-    → ((fault ≡ NoMemory) × Before) ⊎ ((records : List Captured) × StopsWith limit old.left new.left records fault)
-    → (Before → Untouched old new) → Silent old new → MayFail fault old.read_faults new.read_faults → NoWriteFailed old new → Explains limit text old new (Some fault)
-no_tables limit text old new fault Before (inl lack) untouched silent may calm = subst (λ f. Explains limit text old new (Some f)) (sym lack.0) (inl (untouched lack.1))
-no_tables limit text old new fault Before (inr s) untouched silent may calm = stopped limit text old new fault s.0 s.1 silent may calm
+-- a fault in the writing of a run's text
+pub written : (limit : ℕ) (Writes : List PacketInfo → List ℕ → Type 0) (old new : Ends) (all : List PacketInfo) (text : List ℕ) (fault : ReportFault) → HasRead limit old new all → Writes all text → GetsFront old.may_hold new.may_hold text
+    → writing.Blames fault old.write_faults new.write_faults → NoReadFailed old new → Explains limit Writes old new (Some (report_fault fault))
+written limit Writes old new all text report.NoMemory read writes front blames quiet = inr (inr ((all, text, read, writes, front), record { reads = quiet; writes = blames }))
+written limit Writes old new all text report.WriteFault read writes front blames quiet = ((all, text, read, writes, front), blames, quiet)
 
--- a fault in the writing of an accepted capture's report
-pub written : (limit : ℕ) (text : List PacketInfo → List ℕ) (old new : Ends) (records : List Captured) (fault : ReportFault) → Accepts limit old.left records → IsAtEnd new.left → GetsFront old.may_hold new.may_hold (text (map packet_of records)) → Blames fault old.write_faults new.write_faults → NoReadFailed old new → Explains limit text old new (Some (report_fault fault))
-written limit text old new records writing.NoMemory accepted end front blame quiet = inr ((records, accepted, end, front), record { reads = quiet; writes = blame })
-written limit text old new records writing.WriteFault accepted end front blame quiet = ((records, accepted, end, front), blame, quiet)
+-- what is explained by the report of a work is explained by that of a command which asks for this work
+pub serial_by : (packets : Option (List PacketInfo)) (c : Command) (number : ℕ) (old new : Ends) (w : WorkName) (r : Result (Unit {0}) TopFault) → c.options.work ≡ w
+    → MatchResult r (λ _. Explains c.options.packets (IsSerialText packets (report_by w) c.journal (terms_of c.options) c.options.pool number) old new None) (λ fault. Explains c.options.packets (IsSerialText packets (report_by w) c.journal (terms_of c.options) c.options.pool number) old new (Some fault))
+    → MatchResult r (λ _. Explains c.options.packets (WritesSerial packets c number) old new None) (λ fault. Explains c.options.packets (WritesSerial packets c number) old new (Some fault))
+serial_by packets c number old new w r is h =
+    subst (λ (v : WorkName). MatchResult r (λ _. Explains c.options.packets (IsSerialText packets (report_by v) c.journal (terms_of c.options) c.options.pool number) old new None) (λ fault. Explains c.options.packets (IsSerialText packets (report_by v) c.journal (terms_of c.options) c.options.pool number) old new (Some fault))) (sym is) h
+
+pub demo_by : (packets : Option (List PacketInfo)) (c : Command) (old new : Ends) (w : WorkName) (r : Result (Unit {0}) TopFault) → c.options.work ≡ w
+    → MatchResult r (λ _. ExplainsDemo packets (report_by w) c old new None) (λ fault. ExplainsDemo packets (report_by w) c old new (Some fault))
+    → MatchResult r (λ _. ExplainsDemo packets (report_by c.options.work) c old new None) (λ fault. ExplainsDemo packets (report_by c.options.work) c old new (Some fault))
+demo_by packets c old new w r is h =
+    subst (λ (v : WorkName). MatchResult r (λ _. ExplainsDemo packets (report_by v) c old new None) (λ fault. ExplainsDemo packets (report_by v) c old new (Some fault))) (sym is) h
+
+-- what holds of the report of a work holds of that of a command which asks for this work
+pub by_work : (P : (List PacketInfo → List ℕ) → Type 0) (asked w : WorkName) → asked ≡ w → P (report_by w) → P (report_by asked)
+by_work P asked w is h = subst (λ (v : WorkName). P (report_by v)) (sym is) h

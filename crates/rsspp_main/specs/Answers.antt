@@ -1,5 +1,7 @@
 -- What the words ask for, and what a run says of it.
-use Rattle.std.specs.Prelude.{◌≡◌, ◌⊎◌, Option, Some, Result, Ok, Err}
+use Rattle.std.specs.Prelude.{◌≡◌, ◌⊎◌, ℕ, List, Option, None, Some, Result, Ok, Err}
+use Rattle.packet_fields.specs.declared.packet.PacketInfo.{PacketInfo}
+use Rattle.dispatch_loop.specs.Past.{AreNamed}
 use Rattle.command_words.specs.declared.command.Command.{Command}
 use Rattle.command_words.specs.declared.mode.Mode.{Mode}
 use Rattle.command_words.specs.declared.mode.Mode.TheVariants.{Report, Hash, Plan, Make, Demo}
@@ -8,8 +10,11 @@ use Rattle.command_words.specs.declared.word_fault.WordFault.TheVariants as word
 use Rattle.traffic_gen.specs.Traffic.{traffic}
 use Rattle.rsspp_main.specs.declared.fault.TopFault.{TopFault}
 use Rattle.rsspp_main.specs.declared.fault.TopFault.TheVariants.{Words, NoMemory}
+use Rattle.rsspp_main.specs.Demo.{ExplainsDemo}
 use Rattle.rsspp_main.specs.Listing.{listing, ExplainsListing}
 use Rattle.rsspp_main.specs.Plan.{ExplainsPlan}
+use Rattle.rsspp_main.specs.Threads.{WritesRun, IsTold, ToldOfDemo}
+use Rattle.rsspp_main.specs.declared.trace.Trace.{Trace}
 use Rattle.rsspp_main.specs.Run.{Ends, Explains, ExplainsText, Untouched, report_by}
 
 -- the fault of words, as the fault of the whole
@@ -17,18 +22,30 @@ abbrev pub fault_of_word : WordFault → TopFault
 fault_of_word word.NoMemory = NoMemory
 fault_of_word w = Words w
 
--- what each mode says of a run
-abbrev pub Does : Mode → Command → Ends → Ends → Option TopFault → Type 0
-Does Report c old new fault = Explains c.options.packets (report_by c.options.work) old new fault
-Does Hash c old new fault = ExplainsListing c.options.packets (listing c.options.key c.options.start.owners) old new fault
-Does Plan c old new fault = ExplainsPlan old new fault
-Does Make c old new fault = ExplainsText (traffic c.count c.number) old new fault
-Does Demo c old new fault = ⊥
+-- what each mode says of a run whose packets have these names, and of the run that is told
+abbrev pub Does : Option (List PacketInfo) → Option Trace → Mode → Command → Ends → Ends → Option TopFault → Type 0
+Does packets told Report c old new fault = Explains c.options.packets (WritesRun packets c c.serial told) old new fault × IsTold c.serial fault told
+Does packets told Hash c old new fault = ExplainsListing c.options.packets (listing c.options.key c.options.start.owners) old new fault × (told ≡ None)
+Does packets told Plan c old new fault = ExplainsPlan old new fault × (told ≡ None)
+Does packets told Make c old new fault = ExplainsText (traffic c.count c.number) old new fault × (told ≡ None)
+Does packets told Demo c old new fault = ExplainsDemo packets (report_by c.options.work) c old new fault × IsTold c.serial fault told × ToldOfDemo c told
 
 -- words that are refused leave everything untouched, and so does want of memory before a command is read; a command is done by its mode
-abbrev pub Answers : Result Command WordFault → Ends → Ends → Option TopFault → Type 0
-Answers (Err e) old new fault = ((fault ≡ Some (Words e)) ⊎ (fault ≡ Some NoMemory)) × Untouched old new
-Answers (Ok c) old new fault = ((fault ≡ Some NoMemory) × Untouched old new) ⊎ Does c.mode c old new fault
+abbrev pub Answers : Option (List PacketInfo) → Option Trace → Result Command WordFault → Ends → Ends → Option TopFault → Type 0
+Answers packets told (Err e) old new fault = ((fault ≡ Some (Words e)) ⊎ (fault ≡ Some NoMemory)) × Untouched old new × (told ≡ None)
+Answers packets told (Ok c) old new fault = ((fault ≡ Some NoMemory) × Untouched old new × (told ≡ None)) ⊎ Does packets told c.mode c old new fault
+
+-- where packets are named, they are those of the capture that the words ask to run over: what the source has left, or the generated one; other words ask for no run
+abbrev pub NamesRunOf : Option (List PacketInfo) → Mode → Command → Option (List ℕ) → Type 0
+NamesRunOf packets Report c left = AreNamed packets c.options.packets left
+NamesRunOf packets Demo c left = AreNamed packets c.options.packets (Some (traffic c.count c.number))
+NamesRunOf packets Hash c left = Unit {0}
+NamesRunOf packets Plan c left = Unit {0}
+NamesRunOf packets Make c left = Unit {0}
+
+abbrev pub NamesRun : Option (List PacketInfo) → Result Command WordFault → Option (List ℕ) → Type 0
+NamesRun packets (Err e) left = Unit {0}
+NamesRun packets (Ok c) left = NamesRunOf packets c.mode c left
 
 -- the mode is about the capture on the source
 abbrev pub ReadsCapture : Mode → Type 0

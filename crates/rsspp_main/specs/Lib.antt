@@ -1,8 +1,11 @@
 pub mod Answers
-pub mod Gather
+pub mod Demo
 pub mod Listing
+pub mod Named
 pub mod Notes
 pub mod Plan
+pub mod Reports
 pub mod Run
 pub mod Status
-pub mod Tables
+pub mod Stops
+pub mod Threads

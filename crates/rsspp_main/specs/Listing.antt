@@ -12,7 +12,8 @@ use Rattle.toeplitz.specs.declared.key.Key.{Key}
 use Rattle.toeplitz.specs.Packet.{packet_hash}
 use Rattle.rsspp_main.specs.declared.fault.TopFault.{TopFault}
 use Rattle.rsspp_main.specs.declared.fault.TopFault.TheVariants.{Words, Capture, Line, ReadFault, WriteFault, NoMemory, TooMany}
-use Rattle.rsspp_main.specs.Gather.{Accepts, GoesOn, StopsWith}
+use Rattle.rsspp_main.specs.Stops.{Accepts, StopsWith}
+use Rattle.dispatch_loop.specs.Stops.{GoesOn}
 use Rattle.dispatch_loop.specs.Packets.{packet_of}
 use Rattle.rsspp_main.specs.Run.{Ends, NoCallFailed, NoReadFailed, Untouched}
 

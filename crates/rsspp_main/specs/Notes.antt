@@ -30,7 +30,6 @@ word_line word.Words = codes "rsspp: words refused" ++ 10 ∷ []
 word_line word.Mode = codes "rsspp: bad mode" ++ 10 ∷ []
 word_line word.Values = codes "rsspp: bad values" ++ 10 ∷ []
 word_line (word.Option which) = codes "rsspp: bad option " ++ (dashed (option_text which) ++ 10 ∷ [])
-word_line word.NotBuilt = codes "rsspp: words not built" ++ 10 ∷ []
 
 -- the line of a fault
 abbrev pub line_of : TopFault → List ℕ

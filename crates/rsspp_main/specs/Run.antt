@@ -1,5 +1,5 @@
 -- What a run does, and what each of its outcomes says of the bytes that were read and written.
-use Rattle.std.specs.Prelude.{◌≡◌, ◌⊎◌, ℕ, List, map, Option, None, Some}
+use Rattle.std.specs.Prelude.{◌≡◌, ◌⊎◌, ℕ, List, Option, None, Some}
 use Rattle.std.specs.Io.KnownBytes.{IsAtEnd}
 use Rattle.rss_base.specs.Faults.{Rose}
 use Rattle.rss_base.specs.Written.{Gets, GetsFront}
@@ -13,8 +13,8 @@ use Rattle.flow_work.specs.declared.work_name.WorkName.{WorkName}
 use Rattle.flow_work.specs.declared.work_name.WorkName.TheVariants.{Count, TcpFlags, Gaps, OrderFold}
 use Rattle.rsspp_main.specs.declared.fault.TopFault.{TopFault}
 use Rattle.rsspp_main.specs.declared.fault.TopFault.TheVariants.{Words, Capture, Line, ReadFault, WriteFault, NoMemory, TooMany}
-use Rattle.dispatch_loop.specs.Packets.{packet_of}
-use Rattle.rsspp_main.specs.Gather.{Accepts, StopsWith}
+use Rattle.rsspp_run.specs.OneTable.{AreAll}
+use Rattle.rsspp_main.specs.Stops.{StopsWith}
 use Rattle.flow_report.specs.Report.{report}
 
 -- what the ends of a run tell at one moment: the bytes left and the faults of the source, the faults of the output and what it may hold
@@ -49,23 +49,37 @@ pub record Untouched (old new : Ends) : Type 0 where
   pub writes : new.write_faults ≡ old.write_faults
   pub silent : Silent old new
 
--- the capture was accepted and read to its end, and a front of its report was written
-abbrev pub WroteFront : ℕ → (List PacketInfo → List ℕ) → Ends → Ends → Type 0
-WroteFront limit text old new =
-    (records : List Captured) × Accepts limit old.left records × IsAtEnd new.left × GetsFront old.may_hold new.may_hold (text (map packet_of records))
+-- the capture was accepted and read to its end, and `all` are its packets
+abbrev pub HasRead : ℕ → Ends → Ends → List PacketInfo → Type 0
+HasRead limit old new all = AreAll limit old.left all × IsAtEnd new.left
 
--- what each outcome says of a run that reports the packets of a capture in this text; None is the outcome of a run that was done
-abbrev pub Explains : ℕ → (List PacketInfo → List ℕ) → Ends → Ends → Option TopFault → Type 0
-Explains limit text old new None =
-    (records : List Captured) × Accepts limit old.left records × IsAtEnd new.left × Gets old.may_hold new.may_hold (text (map packet_of records)) × NoCallFailed old new
-Explains limit text old new (Some (Capture e)) = (records : List Captured) × StopsWith limit old.left new.left records (Capture e) × Silent old new × NoCallFailed old new
-Explains limit text old new (Some (TooMany n)) = (records : List Captured) × StopsWith limit old.left new.left records (TooMany n) × Silent old new × NoCallFailed old new
-Explains limit text old new (Some ReadFault) =
-    (records : List Captured) × StopsWith limit old.left new.left records ReadFault × Silent old new × Rose old.read_faults new.read_faults × NoWriteFailed old new
-Explains limit text old new (Some WriteFault) = WroteFront limit text old new × Rose old.write_faults new.write_faults × NoReadFailed old new
-Explains limit text old new (Some NoMemory) = Untouched old new ⊎ (WroteFront limit text old new × NoCallFailed old new)
-Explains limit text old new (Some (Line k)) = ⊥
-Explains limit text old new (Some (Words w)) = ⊥
+-- a text that a run over these packets writes was written, and a front of it
+abbrev pub Wrote : ℕ → (List PacketInfo → List ℕ → Type 0) → Ends → Ends → Type 0
+Wrote limit Writes old new =
+    (all : List PacketInfo) × (text : List ℕ) × HasRead limit old new all × Writes all text × Gets old.may_hold new.may_hold text
+
+abbrev pub WroteFront : ℕ → (List PacketInfo → List ℕ → Type 0) → Ends → Ends → Type 0
+WroteFront limit Writes old new =
+    (all : List PacketInfo) × (text : List ℕ) × HasRead limit old new all × Writes all text × GetsFront old.may_hold new.may_hold text
+
+-- the reading of the capture stopped behind some records with this fault, and nothing was written
+abbrev pub Stopped : ℕ → Ends → Ends → TopFault → Type 0
+Stopped limit old new fault = (records : List Captured) × StopsWith limit old.left new.left records fault × Silent old new
+
+-- what each outcome says of a run that reads a whole capture before it writes a text of its packets; None is the outcome of a run that was done
+abbrev pub Explains : ℕ → (List PacketInfo → List ℕ → Type 0) → Ends → Ends → Option TopFault → Type 0
+Explains limit Writes old new None = Wrote limit Writes old new × NoCallFailed old new
+Explains limit Writes old new (Some (Capture e)) = Stopped limit old new (Capture e) × NoCallFailed old new
+Explains limit Writes old new (Some (TooMany n)) = Stopped limit old new (TooMany n) × NoCallFailed old new
+Explains limit Writes old new (Some ReadFault) = Stopped limit old new ReadFault × Rose old.read_faults new.read_faults × NoWriteFailed old new
+Explains limit Writes old new (Some WriteFault) = WroteFront limit Writes old new × Rose old.write_faults new.write_faults × NoReadFailed old new
+-- before the first read, behind the last one, or within the text
+Explains limit Writes old new (Some NoMemory) =
+    Untouched old new
+    ⊎ (((all : List PacketInfo) × HasRead limit old new all × Silent old new × NoCallFailed old new)
+    ⊎ (WroteFront limit Writes old new × NoCallFailed old new))
+Explains limit Writes old new (Some (Line k)) = ⊥
+Explains limit Writes old new (Some (Words w)) = ⊥
 
 -- what each outcome says of a run that writes this text and reads nothing
 abbrev pub ExplainsText : List ℕ → Ends → Ends → Option TopFault → Type 0

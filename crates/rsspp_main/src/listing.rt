@@ -4,16 +4,27 @@ ghost use Rattle.rss_base.specs.Faults.{Rose};
 ghost use Rattle.rss_base.specs.Written.{Gets};
 ghost use Rattle.rsspp_main.specs.Listing.{hash_line, listing, IsListed, ExplainsListing};
 ghost use Rattle.rsspp_main.specs.Run.{ends};
+ghost use Rattle.rsspp_main.specs.Stops.{top_fault};
 
 use crate::TopFault;
-use crate::gather::fault_of;
 use dispatch_loop::next_packet;
 use indirection::Table;
 use packet_fields::{PacketInfo, key_text};
-use pcap_reader::Reader;
+use pcap_reader::{ReadError, Reader};
 use rss_base::{NoMemory, Piece, Sink, Source, Text, write_whole};
 use std::alloc::Global;
 use toeplitz::{Key, hash_info};
+
+// The fault that an error of the reader is.
+fn fault_of(error: ReadError) -> TopFault
+    ensures { result ≡ top_fault error }
+{
+    match error {
+        ReadError::NoMemory => TopFault::NoMemory,
+        ReadError::ReadFault => TopFault::ReadFault,
+        ReadError::Broken(e) => TopFault::Capture(e),
+    }
+}
 
 // What is taken for a line before the first read. The text keeps it, and a line that needs more
 // takes more as it comes.

@@ -4,28 +4,38 @@
 //! status means for the bytes that were read and written. `main` makes the real ends and calls it.
 #![tactic(auto)]
 
+mod demo;
 mod fault;
-mod gather;
 mod listing;
 mod modes;
+mod named;
 mod notes;
 mod process;
-mod run;
-mod tables;
+mod serial;
 #[cfg(test)]
 mod tests;
+mod threaded;
 mod top;
+mod trace;
 
 pub use command_words::{Command, Mode, OptionName, WordFault, read_words};
+pub use demo::serial_demo;
 pub use fault::TopFault;
-pub use modes::{hash_listing, make_capture, plan, report};
+pub use modes::{hash_listing, make_capture, plan};
+pub use named::{OnePacket, report_one_packet};
 pub use notes::fault_line;
+use packet_fields::NoName;
 pub use process::{end_with, fault_of_start, status_behind};
 use rss_base::{OpenGate, StdSink, StdSource};
+pub use serial::serial_report;
 use std::env;
 use std::io::{self, BufWriter};
 use std::process::ExitCode;
+use std::sync::Wait;
+use std::thread::Threads;
+pub use threaded::threaded_report;
 pub use top::rsspp;
+pub use trace::{Answer, Trace};
 
 // The words after the program's name.
 fn words_of(rt: &HostRuntime) -> io::Result<Vec<String>> {
@@ -36,21 +46,30 @@ fn words_of(rt: &HostRuntime) -> io::Result<Vec<String>> {
     Ok(words)
 }
 
-// The status of a run over standard input, output and error. Output is written in large pieces,
+// The status of a run over standard input, output and error. The runtime is the host's, which may
+// start threads. Output is written in large pieces,
 // so the last of them may fail after the run.
-fn status(rt: &HostRuntime) -> io::Result<u8> {
-    let words = words_of(rt)?;
-    let mut source = StdSource::new(rt.stdin());
-    let mut out = StdSink::new(BufWriter::new(rt.alloc(), rt.stdout())?);
-    let mut notes = StdSink::new(rt.stderr());
-    let alloc = rt.alloc();
-    let status = rsspp(alloc, &words, &mut source, &mut out, &mut notes, &OpenGate);
+fn status<R: Threads + Wait + Sync>(host: &HostRuntime, rt: &R) -> io::Result<u8> {
+    let words = words_of(host)?;
+    let mut source = StdSource::new(host.stdin());
+    let mut out = StdSink::new(BufWriter::new(host.alloc(), host.stdout())?);
+    let mut notes = StdSink::new(host.stderr());
+    let alloc = host.alloc();
+    let answer = rsspp::<NoName, _, _, _, _, _>(
+        rt,
+        alloc,
+        &words,
+        &mut source,
+        &mut out,
+        &mut notes,
+        &OpenGate,
+    );
     let handed = out.flush();
-    Ok(status_behind(status, handed, &mut notes))
+    Ok(status_behind(answer.status, handed, &mut notes))
 }
 
 fn main(rt: HostRuntime) -> ExitCode {
-    match status(&rt) {
+    match status(&rt, &rt) {
         Ok(status) => ExitCode::from(status),
         Err(error) => {
             let fault = fault_of_start(error.kind());

@@ -5,43 +5,15 @@ ghost use Rattle.rss_base.specs.Written.{Gets, GetsFront};
 ghost use Rattle.traffic_gen.specs.Traffic.{traffic};
 ghost use Rattle.rsspp_main.specs.Listing.{listing, ExplainsListing};
 ghost use Rattle.rsspp_main.specs.Plan.{plan_fault, ExplainsPlan};
-ghost use Rattle.rsspp_main.specs.Run.{ends, Explains, report_by};
+ghost use Rattle.rsspp_main.specs.Run.{ends};
 
 use crate::TopFault;
 use crate::listing::list_hashes;
-use crate::run::report_once;
 use balancer::{PlanFault, plan_text};
 use command_words::Command;
-use flow_work::{Count, Gaps, OrderFold, TcpFlags, WorkName};
 use rss_base::{Sink, Source};
 use std::alloc::Global;
 use traffic_gen::{MOST_RECORDS, make};
-
-/// Reports the capture on the source by the command's work, and takes at most so many packets as
-/// the command says. Its other options don't show in the report.
-pub fn report<S: Source, K: Sink>(
-    alloc: Global,
-    command: &Command,
-    source: &mut S,
-    out: &mut K,
-) -> Result<(), TopFault>
-    ensures outcome { let before = ends (S.left source.old) (S.faults source.old) (K.faults out.old) (K.may_hold out.old) in
-        let now = ends (S.left source.new) (S.faults source.new) (K.faults out.new) (K.may_hold out.new) in
-        let explains = Explains command.now.options.packets (report_by command.now.options.work) before now in
-        MatchResult result (λ _. explains None) (λ fault. explains (Some fault)) }
-    ensures origin { S.origin source.new ≡ S.origin source.old }
-{
-    let options = &command.options;
-    let limit = options.packets;
-    let key = &options.key;
-    let spread = &options.start;
-    match options.work {
-        WorkName::Count => report_once(alloc, limit, key, spread, &Count, source, out),
-        WorkName::TcpFlags => report_once(alloc, limit, key, spread, &TcpFlags, source, out),
-        WorkName::Gaps => report_once(alloc, limit, key, spread, &Gaps, source, out),
-        WorkName::OrderFold => report_once(alloc, limit, key, spread, &OrderFold, source, out),
-    }
-}
 
 /// Lists the hash, bucket and core of each packet of the capture on the source, by the command's
 /// key and starting table.

@@ -92,7 +92,6 @@ fn write_word_fault<F: Sink>(fault: WordFault, notes: &mut F) -> Result<(), Fail
                 Piece::Bytes(b"\n"),
             ],
         ),
-        WordFault::NotBuilt => write_pieces(notes, &[Piece::Bytes(b"rsspp: words not built\n")]),
     }
 }
 

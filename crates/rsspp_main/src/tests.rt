@@ -1,25 +1,37 @@
 // Whole runs over memory ends: worked captures, and calls that fail.
 mod captures;
+mod demos;
 mod faults;
 mod flows;
 mod forms;
+mod gates;
 mod hashes;
 mod ipv6;
+mod journals;
+mod meeting;
+mod named;
 mod plans;
 mod process;
 mod rows;
+mod schedules;
+mod threads;
 mod words;
 mod works;
 
 use crate::rsspp;
-use rss_base::{MemorySink, MemorySource, OpenGate};
+use packet_fields::NoName;
+use rss_base::{Gate, MemorySink, MemorySource, OpenGate};
 use std::alloc::Global;
+use std::sync::Wait;
 use std::test::Fail;
+use std::thread::Threads;
 
 /// What a run answered and wrote.
 #[derive(Drop)]
 pub struct Ran {
     pub status: u8,
+    /// Whether the trace of a run in threads came with it.
+    pub is_told: bool,
     pub out: Vec<u8>,
     pub notes: Vec<u8>,
 }
@@ -30,6 +42,7 @@ pub struct Ends {
     pub cut: u32,
     pub failing_read: u64,
     pub failing_write: u64,
+    pub failing_note: u64,
 }
 
 /// Ends that cut nothing and never fail.
@@ -37,31 +50,89 @@ pub const WHOLE: Ends = Ends {
     cut: u32::MAX,
     failing_read: 0,
     failing_write: 0,
+    failing_note: 0,
 };
 
-/// Runs the program with these words over a capture.
-pub fn run(alloc: Global, words: &[&str], capture: &[u8], ends: Ends) -> Result<Ran, Fail> {
+// The words as texts of their own.
+fn owned(alloc: Global, words: &[&str]) -> Result<Vec<String>, Fail> {
     let mut owned = Vec::new(alloc);
     for word in words {
         owned.push(String::from_str(alloc, word)?)?;
     }
+    Ok(owned)
+}
+
+/// Runs the program with these words over a capture.
+pub fn run<R: Threads + Wait + Sync>(
+    rt: &R,
+    alloc: Global,
+    words: &[&str],
+    capture: &[u8],
+    ends: Ends,
+) -> Result<Ran, Fail> {
+    run_with(rt, alloc, &owned(alloc, words)?, capture, ends, &OpenGate)
+}
+
+/// Runs the program on one thread under a number, with these words besides, over a capture.
+pub fn run_under<R: Threads + Wait + Sync>(
+    rt: &R,
+    alloc: Global,
+    number: u32,
+    words: &[&str],
+    capture: &[u8],
+) -> Result<Ran, Fail> {
+    let mut all = owned(alloc, words)?;
+    all.push(String::from_str(alloc, "--serial")?)?;
+    all.push(format!(in alloc; "{number}")?)?;
+    run_with(rt, alloc, &all, capture, WHOLE, &OpenGate)
+}
+
+/// Runs the program over a capture, with a gate before each packet of a worker.
+pub fn run_at<G: Gate + Sync, R: Threads + Wait + Sync>(
+    rt: &R,
+    alloc: Global,
+    words: &[&str],
+    capture: &[u8],
+    gate: &G,
+) -> Result<Ran, Fail> {
+    run_with(rt, alloc, &owned(alloc, words)?, capture, WHOLE, gate)
+}
+
+fn run_with<G: Gate + Sync, R: Threads + Wait + Sync>(
+    rt: &R,
+    alloc: Global,
+    words: &[String],
+    capture: &[u8],
+    ends: Ends,
+    gate: &G,
+) -> Result<Ran, Fail> {
     let mut source = MemorySource::new(
         capture.to_vec(alloc)?,
         vec![in alloc; ends.cut]?,
         vec![in alloc; ends.failing_read]?,
     );
     let mut out = MemorySink::new(alloc, 1_000_000, vec![in alloc; ends.failing_write]?)?;
-    let mut notes = MemorySink::new(alloc, 1_000, Vec::new(alloc))?;
-    let status = rsspp(alloc, &owned, &mut source, &mut out, &mut notes, &OpenGate);
+    let mut notes = MemorySink::new(alloc, 1_000, vec![in alloc; ends.failing_note]?)?;
+    let answer = rsspp::<NoName, _, _, _, _, _>(
+        rt,
+        alloc,
+        words,
+        &mut source,
+        &mut out,
+        &mut notes,
+        gate,
+    );
     Ok(Ran {
-        status,
+        status: answer.status,
+        is_told: answer.trace.is_some(),
         out: out.bytes().to_vec(alloc)?,
         notes: notes.bytes().to_vec(alloc)?,
     })
 }
 
 /// Whether a run with these words has this status, output and note.
-pub fn answers(
+pub fn answers<R: Threads + Wait + Sync>(
+    rt: &R,
     alloc: Global,
     words: &[&str],
     input: &[u8],
@@ -69,7 +140,7 @@ pub fn answers(
     out: &str,
     notes: &str,
 ) -> Result<bool, Fail> {
-    let ran = run(alloc, words, input, WHOLE)?;
+    let ran = run(rt, alloc, words, input, WHOLE)?;
     Ok(
         ran.status == status
             && ran.out.as_slice() == out.as_bytes()
@@ -79,7 +150,8 @@ pub fn answers(
 
 /// Whether a report of the capture has this status, output and note, in cuts of 1 to 7 bytes and
 /// uncut.
-pub fn reports(
+pub fn reports<R: Threads + Wait + Sync>(
+    rt: &R,
     alloc: Global,
     capture: &[u8],
     status: u8,
@@ -87,7 +159,7 @@ pub fn reports(
     notes: &str,
 ) -> Result<bool, Fail> {
     for cut in [1, 2, 3, 4, 5, 6, 7, u32::MAX] {
-        let ran = run(alloc, &["report"], capture, Ends { cut, ..WHOLE })?;
+        let ran = run(rt, alloc, &["report"], capture, Ends { cut, ..WHOLE })?;
         if ran.status != status
             || ran.out.as_slice() != out.as_bytes()
             || ran.notes.as_slice() != notes.as_bytes()

@@ -25,7 +25,7 @@ use Rattle.std.proofs.lemmas.List.{length-map}
 use Rattle.rsspp_run.specs.Goes.{bucket_in, Continues, IsRunOf}
 use Rattle.rsspp_run.proofs.Goes.{next_goes, none_ended, same_terms}
 use Rattle.rsspp_run.proofs.Ready.{goes_on}
-use Rattle.rsspp_run.proofs.Refused.{DoesSome, some_deed}
+use Rattle.rsspp_run.proofs.RefusedRounds.{DoesSome, some_deed}
 
 -- a run has a packet for each parcel
 pub as_many : (all : List PacketInfo) (j : Setting) (r : RunState) (t : Terms) → IsRunOf all j r t → length r.machine.packets ≡ length j.parcels

@@ -1,6 +1,9 @@
 -- A sort puts the logs in order.
-use Rattle.std.proofs.Common.{◌≡◌, ℕ, ◌+◌, ◌<◌, ◌≤◌, if◌then◌else◌, Bool, true, false, eqb, ltb, List, [], ◌∷◌, ◌++◌, map, ◌⊎◌, inl, inr, ⊎_elim, refl, sym, ap, ◌∙◌, subst, arith, eq-eqb, ne_eqb}
-use Rattle.std.specs.Prelude.{◌||◌, ◌&&◌, sum_by, slice_index, IsPermutation}
+use Rattle.std.proofs.Common.{◌≡◌, ℕ, suc, add-one, ◌+◌, ◌<◌, ◌≤◌, if◌then◌else◌, cond, Bool, true, false, eqb, ltb, List, [], ◌∷◌, ◌++◌, length, get_or, map, ◌⊎◌, inl, inr, ⊎_elim, refl, sym, ap, ◌∙◌, subst, arith, eq-eqb, ne_eqb}
+use Rattle.std.specs.Prelude.{◌||◌, ◌&&◌, sum_by, slice_index, IsPermutation, IsSortedByKey}
+use Rattle.std.specs.declared.cmp.Ordering.{Ordering}
+use Rattle.std.specs.declared.cmp.Ordering.TheVariants.{Less, Equal, Greater}
+use Rattle.std.specs.Ordering.{is_lt, nat_cmp, ordering_then}
 use Rattle.std.proofs.lemmas.Bool.{cases_eq, cases_lt, lt-ltb, le-ltb}
 use Rattle.std.proofs.lemmas.List.Sorted.{sum_by-IsPermutation}
 use Rattle.std.proofs.lemmas.List.Sums.{sum_by-cons}
@@ -73,6 +76,34 @@ place_ordered x (y ∷ ys) o = ⊎_elim
 pub by_place_ordered : (xs : List Custody) → IsOrdered (by_place xs)
 by_place_ordered [] = tt
 by_place_ordered (x ∷ xs) = place_ordered x (by_place xs) (by_place_ordered xs)
+
+-- a list in which no entry stands before the one ahead of it
+neighbours_ordered : (xs : List Custody) → ((k : ℕ) (d : Custody) → suc k < length xs → ¬ (Before (get_or xs (suc k) d) (get_or xs k d))) → IsOrdered xs
+neighbours_ordered [] h = tt
+neighbours_ordered (x ∷ []) h = (tt, tt)
+neighbours_ordered (x ∷ y ∷ ys) h =
+    let first : ¬ (Before y x) = h 0 x (omega arith) in
+    let rest : IsOrdered (y ∷ ys) = neighbours_ordered (y ∷ ys) (λ k d lt. h (suc k) d (omega arith)) in
+    ((first, all_later y x ys first rest.0), rest)
+
+-- the key by which the code sorts
+abbrev pub key_of : Custody → ℕ × ℕ
+key_of c = (c.bucket, c.from)
+
+abbrev pub by_key : ℕ × ℕ → ℕ × ℕ → Ordering
+by_key x y = ordering_then (nat_cmp x.0 y.0) (nat_cmp x.1 y.1)
+
+less_by_key : (y x : Custody) → Before y x → is_lt (by_key (key_of y) (key_of x)) ≡ true
+less_by_key y x (inl l) = ap (λ (t : Bool). is_lt (ordering_then (cond t Less (cond (eqb y.bucket x.bucket) Equal Greater)) (nat_cmp y.from x.from))) (lt-ltb y.bucket x.bucket l)
+less_by_key y x (inr h) =
+    (λ i. is_lt (ordering_then (cond (le-ltb y.bucket x.bucket (let e = h.0 in let k : x.bucket ≤ y.bucket = omega arith in k) i) Less (cond (eq-eqb y.bucket x.bucket h.0 i) Equal Greater)) (nat_cmp y.from x.from)))
+    ∙ ap (λ (t : Bool). is_lt (cond t Less (cond (eqb y.from x.from) Equal Greater))) (lt-ltb y.from x.from h.1)
+
+not_less : (y x : Custody) → is_lt (by_key (key_of y) (key_of x)) ≡ false → ¬ (Before y x)
+not_less y x is b = let e : true ≡ false = sym (less_by_key y x b) ∙ is in absurd (cc)
+
+pub sorted_ordered : (xs : List Custody) → IsSortedByKey key_of by_key xs → IsOrdered xs
+sorted_ordered xs up = neighbours_ordered xs (λ k d lt. subst (λ (n : ℕ). ¬ (Before (get_or xs n d) (get_or xs k d))) (add-one k) (not_less (get_or xs (k + 1) d) (get_or xs k d) (up k d (omega arith) (omega arith))))
 
 place_times : (z x : Custody) (ys : List Custody) → times z (place_into x ys) ≡ times z (x ∷ ys)
 place_times z x [] = refl

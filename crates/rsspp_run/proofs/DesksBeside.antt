@@ -11,7 +11,10 @@ use Rattle.handover_core.specs.declared.bucket_state.BucketState.{BucketState}
 use Rattle.handover_core.specs.Machine.{step, took, claimed, released, parked, is_end, has_end, is_empty, is_leaving, waits_for}
 use Rattle.handover_core.specs.Promises.{IsOfWorker, counts}
 use Rattle.indirection.specs.Tries.{upto}
+use Rattle.worker_loop.specs.declared.worker_turn.WorkerTurn.{WorkerTurn}
+use Rattle.worker_loop.specs.declared.worker_turn.WorkerTurn.TheVariants.{Released, Claimed, Worked, Parked, Marked, EndTaken, Idle, Ended}
 use Rattle.worker_loop.specs.Schedule.{event_due, release_due, claim_due, after}
+use Rattle.worker_loop.specs.Shows.{event_of}
 use Rattle.dispatch_loop.specs.Face.{Face}
 use Rattle.rsspp_run.specs.Serial.{RunState, worker_turn, side_at}
 use Rattle.rsspp_run.specs.Desk.{IsDeskOf}
@@ -70,7 +73,7 @@ released_same m c b (Leaving start done) = record {
   starts = λ k. set_keeps (λ (s : BucketState). s.start) m.buckets b k _ _ refl;
 }
 
-step_same : (m : MachineView) (e : Event) → IsOfWorker e → IsSameDesk m (step m e)
+pub step_same : (m : MachineView) (e : Event) → IsOfWorker e → IsSameDesk m (step m e)
 step_same m (Take c) w = took_same m c (core_at m c).queue
 step_same m (Claim c b) w = claimed_same m c b (parked (hand_at m c b))
 step_same m (Release c b) w = released_same m c b (hand_at m c b)
@@ -79,6 +82,17 @@ step_same m (Look b) w = absurd w
 step_same m (Move b to) w = absurd w
 step_same m (Place b to) w = absurd w
 step_same m (SendEnd c) w = absurd w
+
+-- a worker's turn sends nothing
+pub sends_none : (m : MachineView) (c : ℕ) (turn : WorkerTurn) → (after m (event_of c turn)).dispatched ≡ m.dispatched
+sends_none m c (Released b) = (step_same m (Release c b) tt).dispatched
+sends_none m c (Claimed b) = (step_same m (Claim c b) tt).dispatched
+sends_none m c Worked = (step_same m (Take c) tt).dispatched
+sends_none m c Parked = (step_same m (Take c) tt).dispatched
+sends_none m c Marked = (step_same m (Take c) tt).dispatched
+sends_none m c EndTaken = (step_same m (Take c) tt).dispatched
+sends_none m c Idle = refl
+sends_none m c Ended = refl
 
 pub desk_beside : (m n : MachineView) (d : Face) → IsSameDesk m n → IsDeskOf m d → IsDeskOf n d
 desk_beside m n d same h =
@@ -100,27 +114,27 @@ desk_beside m n d same h =
     }
 
 -- the event that is due for a core is one of its worker
-Worked : MachineView → Option Event → Type 0
-Worked m o = (o ≡ None) ⊎ ((e : Event) × (o ≡ Some e) × IsOfWorker e × (counts e ≡ 1))
+WorksIfAny : MachineView → Option Event → Type 0
+WorksIfAny m o = (o ≡ None) ⊎ ((e : Event) × (o ≡ Some e) × IsOfWorker e × (counts e ≡ 1))
 
-take_works : (m : MachineView) (c : ℕ) (s t : Bool) → Worked m (if s then None else (if t then None else Some (Take c)))
-unfolding Worked
+take_works : (m : MachineView) (c : ℕ) (s t : Bool) → WorksIfAny m (if s then None else (if t then None else Some (Take c)))
+unfolding WorksIfAny
 take_works m c true t = inl refl
 take_works m c false true = inl refl
 take_works m c false false = inr (Take c, refl, tt, refl)
 
-claim_works : (m : MachineView) (c : ℕ) (o : Option ℕ) → Worked m (claim_due m c o)
-unfolding Worked
+claim_works : (m : MachineView) (c : ℕ) (o : Option ℕ) → WorksIfAny m (claim_due m c o)
+unfolding WorksIfAny
 claim_works m c (Some b) = inr (Claim c b, refl, tt, refl)
 claim_works m c None = take_works m c (has_end (core_at m c).taken) (is_empty (core_at m c).queue)
 
-release_works : (m : MachineView) (c : ℕ) (line : List ℕ) (o : Option ℕ) → Worked m (release_due m c line o)
-unfolding Worked
+release_works : (m : MachineView) (c : ℕ) (line : List ℕ) (o : Option ℕ) → WorksIfAny m (release_due m c line o)
+unfolding WorksIfAny
 release_works m c line (Some b) = inr (Release c b, refl, tt, refl)
 release_works m c line None = claim_works m c (find (λ b. waits_for (hand_at m c b) (bucket_at m b).word) line)
 
 pub due_works : (m : MachineView) (c : ℕ) (line : List ℕ) → (event_due m c line ≡ None) ⊎ ((e : Event) × (event_due m c line ≡ Some e) × IsOfWorker e × (counts e ≡ 1))
-unfolding Worked
+unfolding WorksIfAny
 due_works m c line = release_works m c line (find (λ b. is_leaving (hand_at m c b)) (upto (length m.buckets)))
 
 -- the dispatcher stands to the machine behind a worker's turn as before it

@@ -7,6 +7,7 @@ use Rattle.packet_fields.specs.declared.packet.PacketInfo.{PacketInfo}
 use Rattle.pcap_reader.specs.declared.fault.ReadError.{ReadError}
 use Rattle.pcap_reader.specs.declared.fault.ReadError.TheVariants as reading
 use Rattle.pcap_reader.specs.Capture.{Captured, Reads, Breaks, HeaderBreaks}
+use Rattle.pcap_reader.proofs.Taken.{header_stopped, header_failed}
 use Rattle.pcap_reader.specs.Reading.{Reading, still}
 use Rattle.pcap_reader.specs.declared.reader.Progress.TheVariants.{Going}
 use Rattle.pcap_reader.proofs.SoFar.{SoFar-start}
@@ -15,7 +16,7 @@ use Rattle.dispatch_loop.specs.declared.dispatcher_end.DispatcherEnd.{Dispatcher
 use Rattle.dispatch_loop.specs.declared.dispatcher_end.DispatcherEnd.TheVariants as end
 use Rattle.rsspp_run.specs.declared.run_end.RunFault.{RunFault}
 use Rattle.rsspp_run.specs.declared.run_end.RunFault.TheVariants as faults
-use Rattle.pcap_reader.specs.Stream.{HeaderRefused, TakesHeader}
+use Rattle.pcap_reader.specs.Stream.{HeaderRefused, StopsAtHeader, TakesHeader}
 use Rattle.bucket_table.specs.Table.{TableOf, StandsFor}
 use Rattle.dispatch_loop.specs.Packets.{packet_of}
 use Rattle.dispatch_loop.specs.Past.{past, IsReading, IsOver}
@@ -62,12 +63,17 @@ one_more opening after all q t u h done bucket custody short stands =
     }
 
 -- a capture that breaks at its header has no record
-pub refused_at_start : (limit : ℕ) (left : Option (List ℕ)) (error : ReadError) → HeaderRefused left error → Refuses limit left (fault_of_error error)
-refused_at_start limit left reading.NoMemory h = tt
-refused_at_start limit left reading.ReadFault h = tt
-refused_at_start limit left (reading.Broken e) h =
-    if_known left (λ bytes. HeaderBreaks bytes e) (λ bytes. (records : List Captured) × Reads bytes records (Breaks e) × (length records ≤ limit))
-    (λ bytes b. ([], inl (e, refl, refl, b), omega arith)) h
+pub refused_at_start : (limit : ℕ) (left now : Option (List ℕ)) (error : ReadError) → HeaderRefused left error → StopsAtHeader error left now → Refuses limit left now (fault_of_error error)
+refused_at_start limit left now reading.NoMemory h stops = tt
+refused_at_start limit left now reading.ReadFault h stops = ([], (omega arith, header_failed left now stops))
+refused_at_start limit left now (reading.Broken e) h stops = (
+  [],
+  (
+    omega arith,
+    if_known left (λ bytes. HeaderBreaks bytes e) (λ bytes. Reads bytes [] (Breaks e)) (λ bytes b. inl (e, refl, refl, b)) h,
+    header_stopped left now (reading.Broken e) stops,
+  ),
+)
 
 -- the reading of a reader that was started
 pub begun_reading : (limit : ℕ) (before now : Option (List ℕ)) (r : Reading) → TakesHeader before (still r now) r.form → (r.given ≡ 0) × (r.progress ≡ Going) → IsReading limit (past before []) None r now
@@ -100,9 +106,9 @@ read_to_end limit left now (end.Refused e) all ok o = absurd (cc)
 read_to_end limit left now (end.TooMany n) all ok o = absurd (cc)
 
 -- a stream that ended otherwise is refused so
-pub refused_end : (limit : ℕ) (left now : Option (List ℕ)) (end : DispatcherEnd) (all : List PacketInfo) (fault : RunFault) → refusal end ≡ Err fault → IsOver limit (past left all) None end now → Refuses limit left fault
+pub refused_end : (limit : ℕ) (left now : Option (List ℕ)) (end : DispatcherEnd) (all : List PacketInfo) (fault : RunFault) → refusal end ≡ Err fault → IsOver limit (past left all) None end now → Refuses limit left now fault
 refused_end limit left now end.AtEnd all fault err o = absurd (cc)
 refused_end limit left now (end.Refused reading.NoMemory) all fault err o = absurd o.ends
-refused_end limit left now (end.Refused reading.ReadFault) all fault err o = subst (Refuses limit left) (let e : faults.ReadFault ≡ fault = cc in e) tt
-refused_end limit left now (end.Refused (reading.Broken e)) all fault err o = subst (Refuses limit left) (let q : faults.Capture e ≡ fault = cc in q) o.ends
-refused_end limit left now (end.TooMany n) all fault err o = subst (Refuses limit left) (let q : faults.TooMany n ≡ fault = cc in q) o.ends
+refused_end limit left now (end.Refused reading.ReadFault) all fault err o = subst (Refuses limit left now) (let e : faults.ReadFault ≡ fault = cc in e) (o.stops (λ same. cc))
+refused_end limit left now (end.Refused (reading.Broken e)) all fault err o = subst (Refuses limit left now) (let q : faults.Capture e ≡ fault = cc in q) (o.stops (λ same. cc))
+refused_end limit left now (end.TooMany n) all fault err o = subst (Refuses limit left now) (let q : faults.TooMany n ≡ fault = cc in q) (o.stops (λ same. cc))

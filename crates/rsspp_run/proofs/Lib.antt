@@ -24,7 +24,7 @@ pub mod Goes
 pub mod Falls
 pub mod Finals
 pub mod Quiet
-pub mod Refused
+pub mod RefusedRounds
 pub mod AnyTurn
 pub mod CustodyOrders
 pub mod CustodySums
@@ -32,12 +32,11 @@ pub mod CustodyNotes
 pub mod CustodySorts
 pub mod CustodyLists
 pub mod CustodyRows
-mod Folds
+pub mod Folds
 pub mod Budget
 pub mod Parties
 pub mod Overs
 pub mod BesideWorkers
-pub mod Leaves
 pub mod DesksBeside
 pub mod Finishes
 pub mod Sweeping
@@ -47,4 +46,7 @@ pub mod Bools
 pub mod RunEnds
 pub mod EndTables
 pub mod Finishing
+mod RunCustody
+mod TableSums
+pub mod Targets
 pub mod Serials

@@ -16,6 +16,7 @@ use Rattle.load_meter.specs.LocalMeter.{at_zero}
 use Rattle.worker_loop.specs.Job.{Job, run_of}
 use Rattle.worker_loop.specs.Face.{WorkerView}
 use Rattle.worker_loop.specs.Fresh.{fresh_worker}
+use Rattle.worker_loop.proofs.CustodyLogs.{fresh_stinted}
 use Rattle.worker_loop.proofs.FirstShown.{first_shown}
 use Rattle.worker_loop.proofs.Starts.{tied_new}
 use Rattle.rsspp_run.specs.Serial.{Setting, Side, new_side, side_at, begins}
@@ -45,6 +46,9 @@ module _ {S : Type 0} (x : Job S) (j : Setting) (key : Key) (f : Floor (TableOf 
         line = ap (λ (s : Side). s.line) side;
         log = λ still. ap (λ (s : Side). s.log) side;
         told = record { loads = replicate j.rules.cores 0; is = refl; core = (let l : length (replicate {A = ℕ} j.rules.cores 0) ≡ j.rules.cores = length-replicate j.rules.cores 0 in omega arith); number = get_or-replicate j.rules.cores c 0 0 near };
+        sent = refl;
+        spans = λ still. fresh_stinted c (run_of key (length j.rules.start));
+        entries = tt;
       })
 
   pub workers_begin : AreWorkersAt x (begins j) f

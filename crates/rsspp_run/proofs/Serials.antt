@@ -48,3 +48,16 @@ pub blamed_start : (e : ReadError) (before now : ℕ) → MayBlame e before now 
 blamed_start reading.NoMemory before now h = h
 blamed_start reading.ReadFault before now h = h
 blamed_start (reading.Broken e) before now h = h
+
+-- no stream ends for want of memory
+pub never_short : (limit : ℕ) (bytes left : Option (List ℕ)) (all : List PacketInfo) (how : DispatcherEnd) → IsOver limit (past bytes all) None how left → refusal how ≡ Err faults.NoMemory → ⊥
+never_short limit bytes left all end.AtEnd o err = cc
+never_short limit bytes left all (end.Refused reading.NoMemory) o err = o.ends
+never_short limit bytes left all (end.Refused reading.ReadFault) o err = let no : faults.ReadFault ≡ faults.NoMemory = cc in cc
+never_short limit bytes left all (end.Refused (reading.Broken e)) o err = let no : faults.Capture e ≡ faults.NoMemory = cc in cc
+never_short limit bytes left all (end.TooMany n) o err = let no : faults.TooMany n ≡ faults.NoMemory = cc in cc
+
+pub start_short : (e : ReadError) → fault_of_error e ≡ faults.NoMemory → e ≡ reading.NoMemory
+start_short reading.NoMemory same = refl
+start_short reading.ReadFault same = cc
+start_short (reading.Broken e) same = cc

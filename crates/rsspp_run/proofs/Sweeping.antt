@@ -54,12 +54,12 @@ use Rattle.rsspp_run.proofs.Finals.{rests, deed_is_of, worker_is_of}
 use Rattle.rsspp_run.proofs.Finishes.{open_before, none_held, ends_all, turn_finishes, finished_tells}
 use Rattle.rsspp_run.proofs.Goes.{before_turn, turn_of_run}
 use Rattle.rsspp_run.proofs.Idle.{some_weight}
-use Rattle.rsspp_run.proofs.Leaves.{turn_terms}
+use Rattle.dispatch_loop.proofs.Leaves.{turn_terms}
 use Rattle.rsspp_run.proofs.Lined.{lined_at}
 use Rattle.rsspp_run.proofs.Overs.{worker_over}
 use Rattle.rsspp_run.proofs.Parties.{each_has, only_one}
 use Rattle.rsspp_run.proofs.Quiet.{deed_quiet}
-use Rattle.rsspp_run.proofs.Refused.{DoesSome}
+use Rattle.rsspp_run.proofs.RefusedRounds.{DoesSome}
 use Rattle.rsspp_run.proofs.Rests.{due_same}
 use Rattle.rsspp_run.proofs.RoomsStay.{dispatcher_keeps, worker_keeps, rooms_then}
 use Rattle.rsspp_run.proofs.WorkerTurns.{counted, workers_then, worker_falls}

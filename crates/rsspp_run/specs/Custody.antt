@@ -1,5 +1,5 @@
 -- The custody of a journal, and lists of custodies in order.
-use Rattle.std.specs.Prelude.{◌≡◌, ℕ, zero, suc, ◌+◌, ◌<◌, ◌⊎◌, ◌==◌, nat_lt, ◌||◌, ◌&&◌, if◌then◌else◌, Bool, false, List, [], ◌∷◌, ◌++◌, map}
+use Rattle.std.specs.Prelude.{◌≡◌, ℕ, zero, suc, ◌+◌, ◌<◌, ◌⊎◌, ◌==◌, if◌then◌else◌, Bool, false, List, [], ◌∷◌, ◌++◌, map}
 use Rattle.bucket_table.specs.declared.custody.Custody.{Custody}
 use Rattle.indirection.specs.Tries.{Try, ask_to}
 use Rattle.indirection.specs.Stints.{Stint}

@@ -22,6 +22,7 @@ use Rattle.worker_loop.specs.declared.worker_turn.WorkerTurn.{WorkerTurn}
 use Rattle.worker_loop.specs.Job.{Job, run_of}
 use Rattle.worker_loop.specs.Face.{WorkerView}
 use Rattle.worker_loop.specs.Fresh.{fresh_worker}
+use Rattle.worker_loop.specs.Custodies.{LogHasSpans, AreEntries}
 use Rattle.worker_loop.specs.Given.{GivesNow, KeepsAtFull}
 use Rattle.worker_loop.specs.Scene.{Scene, scene}
 use Rattle.worker_loop.specs.Rules.{IsTurn, freed}
@@ -62,7 +63,7 @@ module _ {T : Type 0} where
   abbrev pub scene_at : Floor T → ℕ → Scene T
   scene_at f c = over (worker_at f c) (lane_at f c) f.shelf f.meter
 
--- the worker of a core stands as the run says: it is the core of the machine, with its line and its log, it keeps no cell, and the meter tells what it has worked
+-- the worker of a core stands as the run says: it is the core of the machine, with its line and its log, it keeps no cell, and the meter tells what it has worked; its lane was sent what the machine sent the core, and its log has the custodies of what it took
 pub record IsWorkerBy {S : Type 0} (x : Job S) (r : RunState) (c : ℕ) (w : WorkerView (TableOf S)) (l : LocalState) (v : LocalView (TableOf S)) (m : MeterState) : Type 0 where
   pub tied : Tied x w.face l.eye v.eye m.eye
   pub shows : Shows r.machine c (over w l v m)
@@ -70,6 +71,9 @@ pub record IsWorkerBy {S : Type 0} (x : Job S) (r : RunState) (c : ℕ) (w : Wor
   pub line : (side_at r c).line ≡ w.face.lot.waiting
   pub log : w.face.short ≡ false → (side_at r c).log ≡ w.face.log
   pub told : Tells (Some m.loads) c w.face.worked
+  pub sent : map plain l.eye.sent ≡ stream c r.machine.dispatched
+  pub spans : LogHasSpans w.face l.eye
+  pub entries : AreEntries w.face.core w.face.run.buckets w.face.log
 
 abbrev pub IsWorkerAt : {S : Type 0} → Job S → RunState → Floor (TableOf S) → ℕ → Type 0
 IsWorkerAt x r f c = IsWorkerBy x r c (worker_at f c) (lane_at f c) f.shelf f.meter
@@ -102,6 +106,7 @@ pub record IsWorkerTurn {S : Type 0} (x : Job S) (c : ℕ) (turn : WorkerTurn) (
 pub record IsLaneSent (xs : List Item) (l l' : LocalState) : Type 0 where
   pub seen : List Seen
   pub are : map plain seen ≡ xs
+  pub sent : l'.eye.sent ≡ l.eye.sent ++ seen
   pub items : l'.items ≡ l.items ++ seen
   pub room : l'.room ≡ l.room
   pub taken : SameTaken l.eye l'.eye

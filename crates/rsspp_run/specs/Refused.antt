@@ -1,12 +1,12 @@
 -- When a run is refused, by the bytes that its source had left and by the count of failed reads.
-use Rattle.std.specs.Prelude.{◌≡◌, ℕ, List, Option, IfSome, Result, Ok, Err, MatchResult, ⊤}
+use Rattle.std.specs.Prelude.{◌≡◌, ℕ, List, Option, Result, Ok, Err, MatchResult, ⊤}
 use Rattle.rss_base.specs.Faults.{Rose}
 use Rattle.pcap_reader.specs.declared.fault.ReadError.{ReadError}
 use Rattle.pcap_reader.specs.declared.fault.ReadError.TheVariants as reading
-use Rattle.pcap_reader.specs.StreamEnd.{EndsStream}
-use Rattle.pcap_reader.specs.StreamEnd as stream
+use Rattle.pcap_reader.specs.Capture.{Captured}
 use Rattle.dispatch_loop.specs.declared.dispatcher_end.DispatcherEnd.{DispatcherEnd}
 use Rattle.dispatch_loop.specs.declared.dispatcher_end.DispatcherEnd.TheVariants as end
+use Rattle.dispatch_loop.specs.Stops.{StopsBy}
 use Rattle.rsspp_run.specs.declared.run_end.RunFault.{RunFault}
 use Rattle.rsspp_run.specs.declared.run_end.RunFault.TheVariants.{Capture, ReadFault, TooMany, NoMemory}
 
@@ -22,12 +22,12 @@ refusal end.AtEnd = Ok tt
 refusal (end.Refused e) = Err (fault_of_error e)
 refusal (end.TooMany n) = Err (TooMany n)
 
--- the capture is refused with this fault: its stream ends so
-abbrev pub Refuses : ℕ → Option (List ℕ) → RunFault → Type 0
-Refuses limit left (Capture e) = IfSome left (λ bytes. EndsStream limit bytes (stream.Broken e))
-Refuses limit left (TooMany n) = (n ≡ limit) × IfSome left (λ bytes. EndsStream limit bytes stream.TooMany)
-Refuses limit left ReadFault = ⊤
-Refuses limit left NoMemory = ⊤
+-- the capture is refused with this fault: its reading stopped so behind some records, by what the source had left before and has left now
+abbrev pub Refuses : ℕ → Option (List ℕ) → Option (List ℕ) → RunFault → Type 0
+Refuses limit left now (Capture e) = (records : List Captured) × StopsBy limit left now records (end.Refused (reading.Broken e))
+Refuses limit left now (TooMany n) = (records : List Captured) × StopsBy limit left now records (end.TooMany n)
+Refuses limit left now ReadFault = (records : List Captured) × StopsBy limit left now records (end.Refused reading.ReadFault)
+Refuses limit left now NoMemory = ⊤
 
 -- a failed read is a read fault, and no other answer comes after one
 abbrev pub Blames : RunFault → ℕ → ℕ → Type 0

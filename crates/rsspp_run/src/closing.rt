@@ -1,5 +1,5 @@
 // What the parties of a run leave at its end.
-ghost use Rattle.std.specs.Prelude.{◌≡◌, ◌≢◌, ◌<◌, ℕ, List, Option, [], None, length, map, flat_map, false, All, IfOk, slice_index_or, IsPermutation};
+ghost use Rattle.std.specs.Prelude.{◌≡◌, ◌≢◌, ◌<◌, ◌↔◌, ℕ, List, Option, [], None, length, map, flat_map, false, All, IfOk, slice_index_or, IsPermutation};
 ghost use Rattle.handover_words.specs.LocalShelf.{Closes};
 ghost use Rattle.handover_words.specs.Stands.{IsTableOf};
 ghost use Rattle.packet_fields.specs.declared.packet.PacketInfo.{PacketInfo};
@@ -7,6 +7,7 @@ ghost use Rattle.pcap_reader.specs.Reading.{Reading};
 ghost use Rattle.worker_loop.specs.Job.{job};
 ghost use Rattle.dispatch_loop.specs.declared.dispatcher_end.DispatcherEnd.TheVariants.{AtEnd};
 ghost use Rattle.dispatch_loop.specs.Terms.{buckets_of};
+ghost use Rattle.rsspp_run.specs.Custody.{IsOrdered};
 ghost use Rattle.rsspp_run.specs.Ends.{log_in, worked_in, IsSerialRun, AreTablesOf};
 ghost use Rattle.rsspp_run.specs.Sweeps.{Course, Ends};
 
@@ -22,8 +23,8 @@ use std::alloc::Global;
 use worker_loop::Worker;
 
 /// Whether memory was refused to the log of a worker.
-pub(crate) fn is_worker_short<W: FlowWork>(workers: &[Worker<W>]) -> bool
-    ensures { result ≡ false → All (λ w. w.face.short ≡ false) workers.now }
+pub fn is_worker_short<W: FlowWork>(workers: &[Worker<W>]) -> bool
+    ensures { (result ≡ false) ↔ All (λ w. w.face.short ≡ false) workers.now }
 {
     for worker in workers {
         if worker.short() {
@@ -34,8 +35,8 @@ pub(crate) fn is_worker_short<W: FlowWork>(workers: &[Worker<W>]) -> bool
 }
 
 /// Whether memory was refused to a table.
-pub(crate) fn is_table_short<W: FlowWork>(tables: &[BucketTable<W>]) -> bool
-    ensures { result ≡ false → All (λ t. t.short ≡ false) tables.now }
+pub fn is_table_short<W: FlowWork>(tables: &[BucketTable<W>]) -> bool
+    ensures { (result ≡ false) ↔ All (λ t. t.short ≡ false) tables.now }
 {
     for table in tables {
         if table.short() {
@@ -46,7 +47,7 @@ pub(crate) fn is_table_short<W: FlowWork>(tables: &[BucketTable<W>]) -> bool
 }
 
 /// How many packets each worker worked.
-pub(crate) fn worked_by_each<W: FlowWork>(
+pub fn worked_by_each<W: FlowWork>(
     alloc: Global,
     workers: &[Worker<W>],
 ) -> Result<Vec<u64>, NoMemory>
@@ -77,11 +78,12 @@ fn all_logs<W: FlowWork>(alloc: Global, workers: &[Worker<W>]) -> Result<Vec<Cus
 }
 
 /// The custodies that all workers ended, by bucket and then by place.
-pub(crate) fn custody_of<W: FlowWork>(
+pub fn custody_of<W: FlowWork>(
     alloc: Global,
     workers: &[Worker<W>],
 ) -> Result<Vec<Custody>, NoMemory>
-    ensures { IfOk result (λ custody. IsPermutation (flat_map log_in workers.now) custody.items) }
+    ensures all { IfOk result (λ custody. IsPermutation (flat_map log_in workers.now) custody.items) }
+    ensures ordered { IfOk result (λ custody. IsOrdered custody.items) }
 {
     let mut all = all_logs(alloc, workers)?;
     match all.sort_by_key(|ended| (ended.bucket, ended.from)) {
@@ -115,8 +117,9 @@ pub(crate) fn finish<W: FlowWork, N: RunName>(
     buckets: u16,
 ) -> Result<RunEnd<W>, NoMemory>
     requires ended { (run : Course) × (reader : Reading) × (left : Option (List ℕ)) × Ends N.packets (job W.opening W.after N.packets) run AtEnd dispatcher crew reader left × (buckets ≡ buckets_of run.terms) }
-    ensures { IfOk result (λ end. (run : Course) (reader : Reading) (left : Option (List ℕ)) → (ended : Ends N.packets (job W.opening W.after N.packets) run AtEnd dispatcher crew reader left)
+    ensures run { IfOk result (λ end. (run : Course) (reader : Reading) (left : Option (List ℕ)) → (ended : Ends N.packets (job W.opening W.after N.packets) run AtEnd dispatcher crew reader left)
         → IsSerialRun run.terms run.pool run.number ended.sent end.journal end.custody.items end.worked.items × AreTablesOf W.opening W.after N.packets run.terms ended.sent end.tables.items) }
+    ensures alone { IfOk result (λ end. (end.notes.items ≡ []) × (end.shelf ≡ None)) }
 {
     let Crew { workers, shelf, .. } = crew;
     if dispatcher.short() {
@@ -136,5 +139,7 @@ pub(crate) fn finish<W: FlowWork, N: RunName>(
         custody,
         journal: dispatcher.into_journal(),
         worked,
+        notes: Vec::new(alloc),
+        shelf: None,
     })
 }

@@ -25,7 +25,7 @@ pub fn one_thread<S: Source, W: FlowWork>(
 ) -> Result<BucketTable<W>, RunFault>
     ensures table { IfOk result (λ table. (all : List PacketInfo) × AreAll packets (S.left source.old) all × IsOneTable W.opening W.after all table) }
     ensures end { OnOk result (IsAtEnd (S.left source.new)) }
-    ensures refused { IfErr result (λ fault. Refuses packets (S.left source.old) fault) }
+    ensures refused { IfErr result (λ fault. Refuses packets (S.left source.old) (S.left source.new) fault) }
     ensures cause { HasRunCause (S.faults source.old) (S.faults source.new) result }
     ensures origin { S.origin source.new ≡ S.origin source.old }
 {

@@ -4,6 +4,7 @@
 mod closing;
 mod crew;
 mod custody_laws;
+mod end_laws;
 mod fold;
 mod laws;
 mod limits;
@@ -11,12 +12,16 @@ mod run_end;
 mod serial;
 mod start;
 mod sweep;
+#[cfg(test)]
+mod tests;
 
+pub use closing::{custody_of, is_table_short, is_worker_short, worked_by_each};
 pub use custody_laws::{logs_are_the_custody, notes_have_the_stints};
+pub use end_laws::tables_share_the_packets;
 pub use fold::one_thread;
 pub use laws::{
     dispatchers_tell_the_run, dispatchers_turns_are_the_runs, no_sweep_is_idle,
     workers_turns_are_the_runs,
 };
-pub use run_end::{RunEnd, RunFault};
+pub use run_end::{RunEnd, RunFault, refused};
 pub use serial::run_serial;

@@ -2,8 +2,10 @@ ghost use Rattle.std.specs.Prelude.{◌≡◌};
 ghost use Rattle.rsspp_run.specs.Refused.{fault_of_error, refusal};
 
 use bucket_table::{BucketTable, Custody};
+use core_queue::LaneNote;
 use dispatch_loop::DispatcherEnd;
 use flow_work::FlowWork;
+use handover_words::ShelfNote;
 use indirection::Journal;
 use pcap_reader::{Break, ReadError};
 use rss_base::NoMemory;
@@ -54,10 +56,15 @@ pub struct RunEnd<W: FlowWork> {
     pub journal: Journal,
     /// How many packets each core worked.
     pub worked: Vec<u64>,
+    /// What was sent to each core of a run in threads and taken there, in order of cores.
+    pub notes: Vec<LaneNote>,
+    /// The custodies that were ended on the shelf of a run in threads.
+    pub shelf: Option<ShelfNote>,
 }
 
-/// What a run is refused with, where its stream ended so.
-pub(crate) fn refused(end: DispatcherEnd) -> Result<(), RunFault>
+/// What a run is refused with, where its stream ended so: the reader's error by its own fault, and
+/// a record above the limit as `TooMany`.
+pub fn refused(end: DispatcherEnd) -> Result<(), RunFault>
     ensures { result ≡ refusal end }
 {
     match end {

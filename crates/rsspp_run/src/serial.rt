@@ -1,5 +1,5 @@
 // A run on one thread.
-ghost use Rattle.std.specs.Prelude.{◌≡◌, Option, List, ℕ, IfOk, IfErr, OnOk, map};
+ghost use Rattle.std.specs.Prelude.{◌≡◌, ◌⊎◌, Option, None, List, [], ℕ, Err, IfOk, IfErr, OnOk, map};
 ghost use Rattle.std.specs.Io.KnownBytes.{IsAtEnd};
 ghost use Rattle.packet_fields.specs.declared.packet.PacketInfo.{PacketInfo};
 ghost use Rattle.dispatch_loop.specs.Accepted.{IsAccepted};
@@ -21,7 +21,8 @@ use rss_base::Source;
 use std::alloc::Global;
 
 /// Runs the dispatcher and its workers on one thread, in sweeps that the number orders, until all
-/// have finished. A run with a table, a log or a journal that is short of memory is `NoMemory`.
+/// have finished. A run whose stream ended by a fault is refused with that fault, and a run with a
+/// table, a log or a journal that is short of memory with `NoMemory`.
 pub fn run_serial<N: RunName, S: Source, W: FlowWork>(
     alloc: Global,
     options: &Options,
@@ -34,8 +35,12 @@ pub fn run_serial<N: RunName, S: Source, W: FlowWork>(
     ensures run { IfOk result (λ end. (all : List PacketInfo) × AreAll options.now.packets (S.left source.old) all
         × IsSerialRun (terms_of options.now) options.now.pool number all end.journal end.custody.items end.worked.items
         × AreTablesOf W.opening W.after N.packets (terms_of options.now) all end.tables.items) }
+    ensures alone { IfOk result (λ end. (end.notes.items ≡ []) × (end.shelf ≡ None)) }
     ensures end { OnOk result (IsAtEnd (S.left source.new)) }
-    ensures refused { IfErr result (λ fault. Refuses options.now.packets (S.left source.old) fault) }
+    ensures refused { IfErr result (λ fault. Refuses options.now.packets (S.left source.old) (S.left source.new) fault) }
+    // Memory runs out before the first read, or behind the last one.
+    ensures memory { result ≡ Err RunFault.NoMemory → (source.new ≡ source.old)
+        ⊎ ((all : List PacketInfo) × AreAll options.now.packets (S.left source.old) all × IsAtEnd (S.left source.new)) }
     ensures cause { HasRunCause (S.faults source.old) (S.faults source.new) result }
     ensures origin { S.origin source.new ≡ S.origin source.old }
 {

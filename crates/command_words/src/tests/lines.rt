@@ -147,7 +147,7 @@ pub const BAD_SERIALS: [&str; 2] = [
     "demo 1 1 --journal --serial x",
 ];
 
-pub const NOT_BUILT: [&str; 7] = [
+pub const SCHEDULES: [&str; 7] = [
     "demo 1 1",
     "report --journal",
     "report --serial 0",

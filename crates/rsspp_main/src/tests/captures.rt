@@ -14,6 +14,13 @@ pub const SEGMENT: [u8; 54] = [
     0x0a, 0xea, 0x06, 0xe6, 0, 0, 0, 0, 0, 0, 0, 0, 0x50, 2, 0xff, 0xff, 0, 0, 0, 0, // TCP
 ];
 
+/// A TCP segment from 38.27.205.30:48228 to 209.142.163.6:2217, in another of two buckets.
+pub const OTHER: [u8; 54] = [
+    0x02, 0, 0, 0, 0, 1, 0x02, 0, 0, 0, 0, 2, 0x08, 0x00, // Ethernet
+    0x45, 0, 0, 0x2e, 0, 1, 0, 0, 0x40, 6, 0, 0, 38, 27, 205, 30, 209, 142, 163, 6, // IPv4
+    0xbc, 0x64, 0x08, 0xa9, 0, 0, 0, 0, 0, 0, 0, 0, 0x50, 2, 0xff, 0xff, 0, 0, 0, 0, // TCP
+];
+
 /// An ARP request of 42 bytes, all zero behind its type.
 pub const ARP: [u8; 42] = [
     0x02, 0, 0, 0, 0, 1, 0x02, 0, 0, 0, 0, 2, 0x08, 0x06, 0, 0, 0, 0, 0, 0, 0, 0, 0, 0, 0, 0, 0, 0,

@@ -23,6 +23,7 @@ fn some_thousand_flows_are_in_one_bucket_or_two(rt: HostRuntime) -> Result<(), F
     let capture = capture_of(rt.alloc(), &frames)?;
     for buckets in ["1", "2"] {
         let ran = run(
+            &rt,
             rt.alloc(),
             &["report", "--buckets", buckets],
             &capture,

@@ -35,7 +35,13 @@ fn each_kind_of_capture_tells_its_times(rt: HostRuntime) -> Result<(), Fail> {
             }
             capture.extend_from_slice(&SEGMENT)?;
         }
-        let ran = run(rt.alloc(), &["report", "--work", "gaps"], &capture, WHOLE)?;
+        let ran = run(
+            &rt,
+            rt.alloc(),
+            &["report", "--work", "gaps"],
+            &capture,
+            WHOLE,
+        )?;
         let mut text = b"tcp 66.9.149.187:2794 > 161.142.100.80:1766 ".to_vec(rt.alloc())?;
         text.extend_from_slice(gap.as_bytes())?;
         text.extend_from_slice(b"total flows 1 packets 2 bytes 120\n")?;
@@ -50,6 +56,7 @@ fn another_format_is_refused(rt: HostRuntime) -> Result<(), Fail> {
     other[..4].copy_from_slice(&[0x0a, 0x0d, 0x0d, 0x0a]);
     assert!(rt;
         reports(
+            &rt,
             rt.alloc(),
             &other,
             3,
@@ -61,6 +68,7 @@ fn another_format_is_refused(rt: HostRuntime) -> Result<(), Fail> {
     later[6] = 5;
     assert!(rt;
         reports(
+            &rt,
             rt.alloc(),
             &later,
             3,
@@ -71,6 +79,7 @@ fn another_format_is_refused(rt: HostRuntime) -> Result<(), Fail> {
     let any = header_of(MICROS, true, 113);
     assert!(rt;
         reports(
+            &rt,
             rt.alloc(),
             &any,
             3,
@@ -85,10 +94,10 @@ fn another_format_is_refused(rt: HostRuntime) -> Result<(), Fail> {
 fn a_record_has_a_longest_length(rt: HostRuntime) -> Result<(), Fail> {
     let frame = vec![in rt.alloc(); 0; 262_145]?;
     let longest = capture_of(rt.alloc(), &[(&frame[1..], 262_144)])?;
-    let ran = run(rt.alloc(), &["report"], &longest, WHOLE)?;
+    let ran = run(&rt, rt.alloc(), &["report"], &longest, WHOLE)?;
     assert_eq!(rt; ran.status, 0);
     let longer = capture_of(rt.alloc(), &[(&frame, 262_145)])?;
-    let ran = run(rt.alloc(), &["report"], &longer, WHOLE)?;
+    let ran = run(&rt, rt.alloc(), &["report"], &longer, WHOLE)?;
     assert_eq!(rt; ran.status, 3);
     let line = b"rsspp: capture refused: record 0 has length 262145\n";
     assert!(rt; ran.notes.as_slice() == line.as_slice());

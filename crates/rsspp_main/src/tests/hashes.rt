@@ -43,7 +43,7 @@ fn published_vectors_are_listed(rt: HostRuntime) -> Result<(), Fail> {
         let [a, b, c, d, e] = segments(protocol);
         let frames: [Frame<'_>; 5] = [(&a, 60), (&b, 60), (&c, 60), (&d, 60), (&e, 60)];
         let capture = capture_of(rt.alloc(), &frames)?;
-        let ran = run(rt.alloc(), &["hash"], &capture, WHOLE)?;
+        let ran = run(&rt, rt.alloc(), &["hash"], &capture, WHOLE)?;
         assert_eq!(rt; ran.status, 0);
         assert!(rt; ran.out.as_slice() == text.as_bytes());
     }
@@ -53,7 +53,7 @@ fn published_vectors_are_listed(rt: HostRuntime) -> Result<(), Fail> {
 #[test]
 fn frames_without_ip_have_no_hash(rt: HostRuntime) -> Result<(), Fail> {
     let capture = capture_of(rt.alloc(), &[(&[], 42), (&ARP, 42)])?;
-    let ran = run(rt.alloc(), &["hash"], &capture, WHOLE)?;
+    let ran = run(&rt, rt.alloc(), &["hash"], &capture, WHOLE)?;
     let text = "0 00000000 0 0 other\n1 00000000 0 0 other\n";
     assert!(rt; ran.out.as_slice() == text.as_bytes());
     Ok(())
@@ -67,10 +67,10 @@ fn a_listing_reads_on_behind_a_failed_write(rt: HostRuntime) -> Result<(), Fail>
         failing_write: 2,
         ..WHOLE
     };
-    let whole = run(rt.alloc(), &["hash"], &capture, ends)?;
+    let whole = run(&rt, rt.alloc(), &["hash"], &capture, ends)?;
     assert_eq!(rt; whole.status, 5);
     capture.truncate(100);
-    let cut = run(rt.alloc(), &["hash"], &capture, ends)?;
+    let cut = run(&rt, rt.alloc(), &["hash"], &capture, ends)?;
     assert_eq!(rt; cut.status, 3);
     assert!(rt; cut.out.as_slice() == b"0 00000000 0 0 other\n".as_slice());
     Ok(())
@@ -81,7 +81,7 @@ fn a_listing_reads_on_behind_a_failed_write(rt: HostRuntime) -> Result<(), Fail>
 fn a_listing_has_the_lines_before_a_break(rt: HostRuntime) -> Result<(), Fail> {
     let mut capture = capture_of(rt.alloc(), &[(&[], 1), (&SEGMENT, 60)])?;
     capture.truncate(80);
-    let ran = run(rt.alloc(), &["hash"], &capture, WHOLE)?;
+    let ran = run(&rt, rt.alloc(), &["hash"], &capture, WHOLE)?;
     assert_eq!(rt; ran.status, 3);
     assert!(rt; ran.out.as_slice() == b"0 00000000 0 0 other\n".as_slice());
     Ok(())
@@ -91,7 +91,7 @@ fn a_listing_has_the_lines_before_a_break(rt: HostRuntime) -> Result<(), Fail> {
 #[test]
 fn a_listing_has_the_lines_before_a_failed_read(rt: HostRuntime) -> Result<(), Fail> {
     let capture = capture_of(rt.alloc(), &[(&[], 1), (&ARP, 3), (&[], 2)])?;
-    let whole = run(rt.alloc(), &["hash"], &capture, WHOLE)?;
+    let whole = run(&rt, rt.alloc(), &["hash"], &capture, WHOLE)?;
     let reads = capture.len() as u64 + 1;
     // Each read gives one byte: the records end behind 40, 98 and 114 of them.
     for failing_read in 1..=reads {
@@ -100,7 +100,7 @@ fn a_listing_has_the_lines_before_a_failed_read(rt: HostRuntime) -> Result<(), F
             failing_read,
             ..WHOLE
         };
-        let ran = run(rt.alloc(), &["hash"], &capture, ends)?;
+        let ran = run(&rt, rt.alloc(), &["hash"], &capture, ends)?;
         assert_eq!(rt; ran.status, 4);
         let records = [40, 98, 114]
             .iter()

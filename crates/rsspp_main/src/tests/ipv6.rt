@@ -27,13 +27,13 @@ fn published_ipv6_vectors_are_listed(rt: HostRuntime) -> Result<(), Fail> {
     let capture = capture_of(rt.alloc(), &[(&SEGMENT6, 74)])?;
     let text = "0 40207d3d 61 1 tcp6 [3ffe:2501:0200:1fff:0000:0000:0000:0007]:2794 > \
         [3ffe:2501:0200:0003:0000:0000:0000:0001]:1766\n";
-    assert!(rt; answers(rt.alloc(), &["hash"], &capture, 0, text, "")?);
+    assert!(rt; answers(&rt, rt.alloc(), &["hash"], &capture, 0, text, "")?);
     let mut neighbour = SEGMENT6;
     neighbour[20] = 58;
     let capture = capture_of(rt.alloc(), &[(&neighbour, 74)])?;
     let text = "0 2cc18cd5 85 1 ip6 3ffe:2501:0200:1fff:0000:0000:0000:0007 > \
         3ffe:2501:0200:0003:0000:0000:0000:0001 proto 58\n";
-    assert!(rt; answers(rt.alloc(), &["hash"], &capture, 0, text, "")?);
+    assert!(rt; answers(&rt, rt.alloc(), &["hash"], &capture, 0, text, "")?);
     Ok(())
 }
 
@@ -43,7 +43,7 @@ fn a_cut_ipv6_segment_has_no_ports(rt: HostRuntime) -> Result<(), Fail> {
     let text = "ip6 3ffe:2501:0200:1fff:0000:0000:0000:0007 > \
         3ffe:2501:0200:0003:0000:0000:0000:0001 proto 6 packets 1 bytes 74\n\
         total flows 1 packets 1 bytes 74\n";
-    assert!(rt; reports(rt.alloc(), &capture, 0, text, "")?);
+    assert!(rt; reports(&rt, rt.alloc(), &capture, 0, text, "")?);
     Ok(())
 }
 
@@ -52,7 +52,7 @@ fn a_raw_segment_is_a_flow(rt: HostRuntime) -> Result<(), Fail> {
     let capture = raw_capture(rt.alloc(), &[(&SEGMENT[14..], 60)])?;
     let text = "tcp 66.9.149.187:2794 > 161.142.100.80:1766 packets 1 bytes 60\n\
         total flows 1 packets 1 bytes 60\n";
-    assert!(rt; reports(rt.alloc(), &capture, 0, text, "")?);
+    assert!(rt; reports(&rt, rt.alloc(), &capture, 0, text, "")?);
     Ok(())
 }
 
@@ -72,7 +72,7 @@ fn raw_packets_are_told_apart_by_their_version(rt: HostRuntime) -> Result<(), Fa
         other flags 00 syn 0 fin 0 rst 0\n\
         total flows 3 packets 4 bytes 282\n";
     let words = ["report", "--work", "flags"];
-    assert!(rt; answers(rt.alloc(), &words, &capture, 0, text, "")?);
+    assert!(rt; answers(&rt, rt.alloc(), &words, &capture, 0, text, "")?);
     Ok(())
 }
 
@@ -87,13 +87,16 @@ fn other_links_are_refused(rt: HostRuntime) -> Result<(), Fail> {
         (113, "rsspp: capture refused: link 113\n"),
     ] {
         let header = header_of([0xa1, 0xb2, 0xc3, 0xd4], true, link);
-        assert!(rt; reports(rt.alloc(), &header, 3, "", line)?);
+        assert!(rt; reports(&rt, rt.alloc(), &header, 3, "", line)?);
     }
     let mut header = HEADER;
     header[20] = 101;
-    assert_eq!(rt; run(rt.alloc(), &["report"], &header, WHOLE)?.status, 0);
+    assert_eq!(rt;
+        run(&rt, rt.alloc(), &["report"], &header, WHOLE)?.status,
+        0
+    );
     header[23] = 0x10;
     let line = "rsspp: capture refused: link 268435557\n";
-    assert!(rt; reports(rt.alloc(), &header, 3, "", line)?);
+    assert!(rt; reports(&rt, rt.alloc(), &header, 3, "", line)?);
     Ok(())
 }

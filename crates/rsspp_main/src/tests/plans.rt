@@ -23,7 +23,7 @@ fn a_plan_says_its_moves_and_what_follows(rt: HostRuntime) -> Result<(), Fail> {
         ),
     ];
     for (text, out) in plans {
-        assert!(rt; answers(rt.alloc(), &["plan"], text.as_bytes(), 0, out, "")?);
+        assert!(rt; answers(&rt, rt.alloc(), &["plan"], text.as_bytes(), 0, out, "")?);
     }
     Ok(())
 }
@@ -32,6 +32,6 @@ fn a_plan_says_its_moves_and_what_follows(rt: HostRuntime) -> Result<(), Fail> {
 fn a_bad_line_is_named_and_nothing_is_written(rt: HostRuntime) -> Result<(), Fail> {
     let text = b"cores 2\nlimit 4\nbase 0\nbucket 0 5\n";
     let notes = "rsspp: plan refused: line 3\n";
-    assert!(rt; answers(rt.alloc(), &["plan"], text, 3, "", notes)?);
+    assert!(rt; answers(&rt, rt.alloc(), &["plan"], text, 3, "", notes)?);
     Ok(())
 }

@@ -5,7 +5,7 @@ use std::test::Fail;
 
 #[test]
 fn refused_words_say_which(rt: HostRuntime) -> Result<(), Fail> {
-    let lists: [(&[&str], &str); 12] = [
+    let lists: [(&[&str], &str); 10] = [
         (&[], "rsspp: words refused\n"),
         (&["other"], "rsspp: bad mode\n"),
         (&["Report"], "rsspp: bad mode\n"),
@@ -28,11 +28,9 @@ fn refused_words_say_which(rt: HostRuntime) -> Result<(), Fail> {
             &["report", "--cores", "2", "--buckets", "2", "--table", "0,2"],
             "rsspp: bad option --table\n",
         ),
-        (&["report", "--journal"], "rsspp: words not built\n"),
-        (&["demo", "1", "1"], "rsspp: words not built\n"),
     ];
     for (words, notes) in lists {
-        assert!(rt; answers(rt.alloc(), words, &HEADER, 2, "", notes)?);
+        assert!(rt; answers(&rt, rt.alloc(), words, &HEADER, 2, "", notes)?);
     }
     Ok(())
 }
@@ -42,11 +40,11 @@ fn a_report_of_too_many_packets_ends(rt: HostRuntime) -> Result<(), Fail> {
     let mut capture = capture_of(rt.alloc(), &[(SEGMENT.as_slice(), 60); 4])?;
     let words: [&str; 3] = ["report", "--packets", "3"];
     let notes = "rsspp: more than 3 packets\n";
-    assert!(rt; answers(rt.alloc(), &words, &capture, 7, "", notes)?);
+    assert!(rt; answers(&rt, rt.alloc(), &words, &capture, 7, "", notes)?);
     // A cut fourth record is what the capture says first.
     capture.truncate(24 + 3 * 70 + 26);
     let notes = "rsspp: capture refused: record 3 ends after 26 bytes\n";
-    assert!(rt; answers(rt.alloc(), &words, &capture, 3, "", notes)?);
+    assert!(rt; answers(&rt, rt.alloc(), &words, &capture, 3, "", notes)?);
     Ok(())
 }
 
@@ -56,6 +54,6 @@ fn as_many_packets_as_the_limit_are_reported(rt: HostRuntime) -> Result<(), Fail
     let words: [&str; 3] = ["report", "--packets", "3"];
     let text = "tcp 66.9.149.187:2794 > 161.142.100.80:1766 packets 3 bytes 180\n\
         total flows 1 packets 3 bytes 180\n";
-    assert!(rt; answers(rt.alloc(), &words, &capture, 0, text, "")?);
+    assert!(rt; answers(&rt, rt.alloc(), &words, &capture, 0, text, "")?);
     Ok(())
 }

@@ -1,8 +1,10 @@
 // The works, over the home capture and over generated traffic.
 use crate::tests::captures::HEADER;
-use crate::tests::{WHOLE, run};
+use crate::tests::{WHOLE, run, run_under};
 use std::alloc::Global;
+use std::sync::Wait;
 use std::test::Fail;
+use std::thread::Threads;
 
 const HOME: &[u8] = &[
     0xd4, 0xc3, 0xb2, 0xa1, 0x02, 0x00, 0x04, 0x00, 0x00, 0x00, 0x00, 0x00, 0x00, 0x00, 0x00, 0x00,
@@ -69,18 +71,46 @@ total flows 6 packets 7 bytes 506
 ";
 
 // Whether the words print this text of a capture, and nothing on the notes.
-fn prints(alloc: Global, words: &[&str], capture: &[u8], text: &[u8]) -> Result<bool, Fail> {
-    let ran = run(alloc, words, capture, WHOLE)?;
+fn prints<R: Threads + Wait + Sync>(
+    rt: &R,
+    alloc: Global,
+    words: &[&str],
+    capture: &[u8],
+    text: &[u8],
+) -> Result<bool, Fail> {
+    let ran = run(rt, alloc, words, capture, WHOLE)?;
     Ok(ran.status == 0 && ran.out.as_slice() == text && ran.notes.is_empty())
 }
 
 #[test]
 fn a_home_capture_is_reported(rt: HostRuntime) -> Result<(), Fail> {
-    assert!(rt; prints(rt.alloc(), &["report"], HOME, REPORT.as_bytes())?);
+    assert!(rt; prints(&rt, rt.alloc(), &["report"], HOME, REPORT.as_bytes())?);
     let count = ["report", "--work", "count"];
-    assert!(rt; prints(rt.alloc(), &count, HOME, REPORT.as_bytes())?);
+    assert!(rt; prints(&rt, rt.alloc(), &count, HOME, REPORT.as_bytes())?);
     let flags = ["report", "--work", "flags"];
-    assert!(rt; prints(rt.alloc(), &flags, HOME, FLAGS.as_bytes())?);
+    assert!(rt; prints(&rt, rt.alloc(), &flags, HOME, FLAGS.as_bytes())?);
+    Ok(())
+}
+
+// Only the fronts that end behind the header or behind a record are whole captures.
+#[test]
+fn each_front_of_a_capture_is_told(rt: HostRuntime) -> Result<(), Fail> {
+    let mut headers: usize = 0;
+    let mut records: usize = 0;
+    for length in 0..HOME.len() {
+        let ran = run_under(&rt, rt.alloc(), 0, &["report"], &HOME[..length])?;
+        let whole = [24, 82, 172, 278, 368, 458, 540].contains(&length);
+        assert_eq!(rt; ran.status, if whole { 0 } else { 3 });
+        if ran
+            .notes
+            .starts_with(b"rsspp: capture refused: header ends")
+        {
+            headers = headers.saturating_add(1);
+        } else if ran.notes.starts_with(b"rsspp: capture refused: record ") {
+            records = records.saturating_add(1);
+        }
+    }
+    assert!(rt; headers == 24 && records == 611);
     Ok(())
 }
 
@@ -92,16 +122,22 @@ fn one_packet_is_made(rt: HostRuntime) -> Result<(), Fail> {
     capture.extend_from_slice(&[0x45, 0, 0, 46, 0, 0, 0, 0, 64, 6, 0, 0, 10, 0, 0, 0])?;
     capture.extend_from_slice(&[192, 168, 0, 1, 4, 0, 0, 80, 0, 0, 0, 0, 0, 0, 0, 0])?;
     capture.extend_from_slice(&[0x50, 2, 0xff, 0xff, 0, 0, 0, 0])?;
-    assert!(rt; prints(rt.alloc(), &["make", "1", "0"], &[], &capture)?);
+    assert!(rt; prints(&rt, rt.alloc(), &["make", "1", "0"], &[], &capture)?);
     Ok(())
 }
 
 // The total line of each work's report is that of the packets, and not of the work.
 #[test]
 fn made_traffic_is_reported_by_each_work(rt: HostRuntime) -> Result<(), Fail> {
-    let made = run(rt.alloc(), &["make", "800", "7"], &[], WHOLE)?;
+    let made = run(&rt, rt.alloc(), &["make", "800", "7"], &[], WHOLE)?;
     for work in ["count", "flags", "gaps", "order"] {
-        let ran = run(rt.alloc(), &["report", "--work", work], &made.out, WHOLE)?;
+        let ran = run(
+            &rt,
+            rt.alloc(),
+            &["report", "--work", work],
+            &made.out,
+            WHOLE,
+        )?;
         assert_eq!(rt; ran.status, 0);
         assert!(rt; ran.out.ends_with(b" packets 800 bytes 76000\n"));
     }
@@ -120,9 +156,10 @@ fn numbers_and_names_out_of_range_are_refused(rt: HostRuntime) -> Result<(), Fai
         ["report", "work", "count"],
     ];
     for words in &lists {
-        assert_eq!(rt; run(rt.alloc(), words, &[], WHOLE)?.status, 2);
+        assert_eq!(rt; run(&rt, rt.alloc(), words, &[], WHOLE)?.status, 2);
     }
     let ran = run(
+        &rt,
         rt.alloc(),
         &["make", "0000000000", "4294967295"],
         &[],

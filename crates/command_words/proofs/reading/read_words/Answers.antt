@@ -12,6 +12,6 @@ pub returns-in-Ok : goal.returns-in-Ok
 returns-in-Ok c =
     let words = map string_bytes c.args.words.now in
     let passed : is_some (parts_of words) ≡ true = search rules in
-    let answers = read_by_matches words c.in-Ok.matches c.built_command.result passed (λ ps h. c.in-Ok.ensures ps h) c.built_command.ensures in
+    let answers = read_by_matches words c.in-Ok.matches c.command.result passed (λ ps h. c.in-Ok.ensures ps h) c.command.ensures in
     let free : is_refused words ≡ false = not_true (is_refused words) (sym c.passes.ensures.refusals ∙ search rules) in
-    record { answers = answers; words = not_words (given_in c.in-Ok.matches) (is_refused words) c.built_command.result free c.built_command.ensures; accepted = accepted_by words c.built_command.result answers }
+    record { answers = answers; words = not_words (given_in c.in-Ok.matches) (is_refused words) c.command.result free c.command.ensures; accepted = accepted_by words c.command.result answers }

@@ -6,10 +6,10 @@ use Rattle.pcap_reader.specs.Reading.{still}
 use Rattle.rss_base.specs.Written.{Gets}
 use Rattle.rsspp_main.specs.Listing.{listing, hash_line, IsListed}
 use Rattle.rsspp_main.specs.declared.fault.TopFault.TheVariants.{TooMany}
-use Rattle.rsspp_main.specs.Gather.{top_fault}
+use Rattle.rsspp_main.specs.Stops.{top_fault}
 use Rattle.dispatch_loop.specs.Packets.{packet_of}
 use Rattle.rsspp_main.specs.Run.{ends}
-use Rattle.rsspp_main.proofs.Gathered.{next_none, next_some, goes_on, stopped_at_start, stopped_later, packets-push, same_length}
+use Rattle.rsspp_main.proofs.Readings.{next_none, next_some, goes_on, stopped_at_start, stopped_later, packets-push, same_length}
 use Rattle.rsspp_main.proofs.Listings.{listing-push, listed_none, listed-push, finished, stopped, may_fail, none_listed, not_skipped, gets_none, ok_same}
 use Rattle.rsspp_main.proofs.listing.list_hashes.Goals as goal
 

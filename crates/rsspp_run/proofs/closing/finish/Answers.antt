@@ -18,17 +18,17 @@ tables_of-requires-clause-home g c κs within =
     subst (λ (f : Floor (TableOf g.row.W-State.Denot)). (b : ℕ) → b < length f.shelf.homes → get_or f.shelf.homes b None ≢ None) (sym c.crew.view_is)
     (homes_lie g.W.FlowWork.opening g.W.FlowWork.after g.N.RunName.packets run.terms run.pool run.number run.bytes AtEnd c.args.dispatcher c.args.crew c.requires.ended.1 c.requires.ended.2 c.requires.ended.3)
 
-pub returns : goal.returns
-returns g c = λ run reader left h.
+pub returns-clause-run : goal.returns-clause-run
+returns-clause-run g c = λ run reader left h.
     let x = job g.W.FlowWork.opening g.W.FlowWork.after g.N.RunName.packets in
     let still : c.args.dispatcher.short ≡ false = sym c.short.ensures ∙ c.if-short.false in
     let calm = subst (λ (f : Floor (TableOf g.row.W-State.Denot)). All (λ (w : WorkerView (TableOf g.row.W-State.Denot)). w.face.short ≡ false) f.workers) c.crew.view_is
-    (subst (λ (ws : List (WorkerView (TableOf g.row.W-State.Denot))). All (λ (w : WorkerView (TableOf g.row.W-State.Denot)). w.face.short ≡ false) ws) c.deref.ensures.value (c.is_worker_short.ensures c.if-is_worker_short.false)) in
+    (subst (λ (ws : List (WorkerView (TableOf g.row.W-State.Denot))). All (λ (w : WorkerView (TableOf g.row.W-State.Denot)). w.face.short ≡ false) ws) c.deref.ensures.value (c.is_worker_short.ensures.0 c.if-is_worker_short.false)) in
     let counts = c.in_ok-worked.ensures ∙ (ap (λ (ws : List (WorkerView (TableOf g.row.W-State.Denot))). map worked_in ws) c.deref-2.ensures.value ∙ ap (λ (f : Floor (TableOf g.row.W-State.Denot)). map worked_in f.workers) c.crew.view_is) in
     let logs = subst (λ (f : Floor (TableOf g.row.W-State.Denot)). IsPermutation (flat_map log_in f.workers) c.in_ok-custody.custody.items) c.crew.view_is
-    (subst (λ (ws : List (WorkerView (TableOf g.row.W-State.Denot))). IsPermutation (flat_map log_in ws) c.in_ok-custody.custody.items) c.deref-3.ensures.value c.in_ok-custody.ensures) in
+    (subst (λ (ws : List (WorkerView (TableOf g.row.W-State.Denot))). IsPermutation (flat_map log_in ws) c.in_ok-custody.custody.items) c.deref-3.ensures.value c.in_ok-custody.ensures.all) in
     let closes = subst (λ (f : Floor (TableOf g.row.W-State.Denot)). Closes (IsTableOf g.W.FlowWork.opening g.W.FlowWork.after g.N.RunName.packets) f.shelf [] c.in_ok-tables.tables.items) c.crew.view_is c.in_ok-tables.ensures in
-    let whole = subst (λ (ts : List (TableOf g.row.W-State.Denot)). All (λ (t : TableOf g.row.W-State.Denot). t.short ≡ false) ts) c.deref-4.ensures.value (c.is_table_short.ensures c.if-is_table_short.false) in (
-      is_serial g.N.RunName.packets x run.terms run.pool run.number run.bytes c.args.dispatcher c.args.crew reader left h still calm c.into_journal.result c.in_ok-custody.custody.items c.in_ok-worked.worked.items c.into_journal.ensures logs counts,
+    let whole = subst (λ (ts : List (TableOf g.row.W-State.Denot)). All (λ (t : TableOf g.row.W-State.Denot). t.short ≡ false) ts) c.deref-4.ensures.value (c.is_table_short.ensures.0 c.if-is_table_short.false) in (
+      is_serial g.N.RunName.packets x run.terms run.pool run.number run.bytes c.args.dispatcher c.args.crew reader left h still calm c.into_journal.result c.in_ok-custody.custody.items c.in_ok-worked.worked.items c.into_journal.ensures c.in_ok-custody.ensures.ordered logs counts,
       tables_stand g.W.FlowWork.opening g.W.FlowWork.after g.N.RunName.packets run.terms run.pool run.number run.bytes AtEnd c.args.dispatcher c.args.crew reader left h c.in_ok-tables.tables.items closes whole,
     )

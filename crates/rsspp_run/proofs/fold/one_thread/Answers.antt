@@ -34,6 +34,6 @@ returns-clause-end g c =
 
 pub returns-in_err-reader-clause-refused : goal.returns-in_err-reader-clause-refused
 returns-in_err-reader-clause-refused g c =
-    let h = refused_at_start c.args.packets (g.S.Source.left c.args.source.now) c.in_err-reader.field-0.0 c.in_err-reader.ensures.refused in
+    let h = refused_at_start c.args.packets (g.S.Source.left c.args.source.now) (g.S.Source.left c.start.new.source) c.in_err-reader.field-0.0 c.in_err-reader.ensures.refused c.in_err-reader.ensures.stops in
     let from = c.from_residual-in_err-reader.ensures in
     search (rules, h, from)

@@ -1,4 +1,4 @@
-use Rattle.std.proofs.Common.{◌∙◌, length, refl, sym, ap, subst, rules, Option, Some}
+use Rattle.std.proofs.Common.{◌≡◌, ◌∙◌, inl, inr, Err, length, refl, sym, ap, subst, rules, Option, Some}
 use Rattle.worker_loop.specs.Job.{job}
 use Rattle.dispatch_loop.specs.declared.dispatcher_end.DispatcherEnd.{DispatcherEnd}
 use Rattle.dispatch_loop.specs.declared.dispatcher_end.DispatcherEnd.TheVariants.{AtEnd}
@@ -6,16 +6,17 @@ use Rattle.dispatch_loop.specs.Face.{Face}
 use Rattle.dispatch_loop.specs.OptionsView.{OptionsView}
 use Rattle.dispatch_loop.specs.Rules.{BlamesRead}
 use Rattle.dispatch_loop.specs.Terms.{terms_of}
-use Rattle.rsspp_run.specs.Refused.{Refuses, Blames}
+use Rattle.rsspp_run.specs.Refused.{fault_of_error, Refuses, Blames}
+use Rattle.rsspp_run.specs.declared.run_end.RunFault.TheVariants as running
 use Rattle.rsspp_run.specs.Sweeps.{Course, Ends}
 use Rattle.rsspp_run.proofs.Begins.{run_opens}
 use Rattle.rsspp_run.proofs.Folds.{refused_at_start, refused_end}
-use Rattle.rsspp_run.proofs.Serials.{ended_so, over_then, all_read, blamed_start, blamed_end}
+use Rattle.rsspp_run.proofs.Serials.{ended_so, over_then, all_read, blamed_start, blamed_end, never_short, start_short}
 use Rattle.rsspp_run.proofs.serial.run_serial.Goals as goal
 
 pub returns-in_err-reader-clause-refused : goal.returns-in_err-reader-clause-refused
 returns-in_err-reader-clause-refused g c =
-    let k = refused_at_start c.args.options.now.packets (g.S.Source.left c.args.source.now) c.in_err-reader.field-0.0 c.in_err-reader.ensures.refused in
+    let k = refused_at_start c.args.options.now.packets (g.S.Source.left c.args.source.now) (g.S.Source.left c.start.new.source) c.in_err-reader.field-0.0 c.in_err-reader.ensures.refused c.in_err-reader.ensures.stops in
     let from = c.from_residual-in_err-reader.ensures in
     search (rules, k, from)
 
@@ -35,7 +36,7 @@ run_sweeps-end-requires-clause-sweeping g c κs within =
 
 pub returns-in_err-refused-clause-refused : goal.returns-in_err-refused-clause-refused
 returns-in_err-refused-clause-refused g c =
-    let k : Refuses c.args.options.now.packets (g.S.Source.left c.args.source.now) c.in_err-refused.field-0.0 = (
+    let k : Refuses c.args.options.now.packets (g.S.Source.left c.args.source.now) (g.S.Source.left c.run_sweeps-end.new.source) c.in_err-refused.field-0.0 = (
     let left = g.S.Source.left in let faults = g.S.Source.faults in let x = job g.W.FlowWork.opening g.W.FlowWork.after g.N.RunName.packets in
     let run : Course = record { terms = terms_of c.args.options.now; pool = c.args.options.now.pool; number = c.args.number; swept = 0; bytes = left c.args.source.now } in
     let opens = run_opens g.N.RunName.packets x c.args.options.now c.requires.accepted c.args.number (left c.args.source.now) (left c.start.new.source) c.in_ok-crew.crew c.in_ok-reader.reader c.in_ok-crew.ensures c.requires.named c.in_ok-reader.ensures.header c.in_ok-reader.ensures.first c.in_ok-dispatcher.dispatcher c.in_ok-dispatcher.ensures.fresh in
@@ -89,7 +90,7 @@ returns-clause-run g c =
     let h = c.run_sweeps-end.ensures.ended run opens refl refl in
     let ended = subst (λ (how : DispatcherEnd). Ends g.N.RunName.packets x run how c.run_sweeps-end.new.dispatcher c.run_sweeps-end.new.self c.run_sweeps-end.new.reader (left c.run_sweeps-end.new.source)) (ended_so c.run_sweeps-end.result (sym c.refused.ensures ∙ c.in_ok-refused.was)) h in
     let over = over_then g.N.RunName.packets x run.terms run.pool run.number run.bytes AtEnd c.run_sweeps-end.new.dispatcher c.run_sweeps-end.new.self c.run_sweeps-end.new.reader (left c.run_sweeps-end.new.source) ended in
-    let got = c.in_ok-finish.ensures run c.run_sweeps-end.new.reader (left c.run_sweeps-end.new.source) ended in
+    let got = c.in_ok-finish.ensures.run run c.run_sweeps-end.new.reader (left c.run_sweeps-end.new.source) ended in
     (ended.sent, all_read c.args.options.now.packets (left c.args.source.now) (left c.run_sweeps-end.new.source) ended.sent over, got.0, got.1)
 
 pub returns-clause-end : goal.returns-clause-end
@@ -111,3 +112,31 @@ returns-clause-cause g c =
     let blames = subst (λ (o : Option DispatcherEnd). BlamesRead o (faults c.args.source.now) (faults c.run_sweeps-end.new.source)) h.end_is (c.run_sweeps-end.ensures.blames (faults c.args.source.now) begun) in
     let quiet = subst (λ (how : DispatcherEnd). BlamesRead (Some how) (faults c.args.source.now) (faults c.run_sweeps-end.new.source)) (ended_so c.run_sweeps-end.result (sym c.refused.ensures ∙ c.in_ok-refused.was)) blames in
     quiet
+
+pub returns-in_err-reader-clause-memory : goal.returns-in_err-reader-clause-memory
+returns-in_err-reader-clause-memory g c = λ short.
+    let from = c.from_residual-in_err-reader.ensures in
+    let same : fault_of_error c.in_err-reader.field-0.0 ≡ running.NoMemory = search (rules, from, short) in
+    let is = start_short c.in_err-reader.field-0.0 same in
+    inl (c.in_err-reader.ensures.no_memory (search (rules, is)))
+
+pub returns-in_err-refused-clause-memory : goal.returns-in_err-refused-clause-memory
+returns-in_err-refused-clause-memory g c = λ short.
+    let left = g.S.Source.left in let faults = g.S.Source.faults in let x = job g.W.FlowWork.opening g.W.FlowWork.after g.N.RunName.packets in
+    let run : Course = record { terms = terms_of c.args.options.now; pool = c.args.options.now.pool; number = c.args.number; swept = 0; bytes = left c.args.source.now } in
+    let opens = run_opens g.N.RunName.packets x c.args.options.now c.requires.accepted c.args.number (left c.args.source.now) (left c.start.new.source) c.in_ok-crew.crew c.in_ok-reader.reader c.in_ok-crew.ensures c.requires.named c.in_ok-reader.ensures.header c.in_ok-reader.ensures.first c.in_ok-dispatcher.dispatcher c.in_ok-dispatcher.ensures.fresh in
+    let h = c.run_sweeps-end.ensures.ended run opens refl refl in
+    let over = over_then g.N.RunName.packets x run.terms run.pool run.number run.bytes c.run_sweeps-end.result c.run_sweeps-end.new.dispatcher c.run_sweeps-end.new.self c.run_sweeps-end.new.reader (left c.run_sweeps-end.new.source) h in
+    let from = c.from_residual-in_err-refused.ensures in
+    let none : c.in_err-refused.field-0.0 ≡ running.NoMemory = search (rules, from, short) in
+    absurd (never_short c.args.options.now.packets (left c.args.source.now) (left c.run_sweeps-end.new.source) h.sent c.run_sweeps-end.result over (sym c.refused.ensures ∙ (c.in_err-refused.was ∙ ap Err none)))
+
+pub returns-in_err-finish-clause-memory : goal.returns-in_err-finish-clause-memory
+returns-in_err-finish-clause-memory g c = λ short.
+    let left = g.S.Source.left in let faults = g.S.Source.faults in let x = job g.W.FlowWork.opening g.W.FlowWork.after g.N.RunName.packets in
+    let run : Course = record { terms = terms_of c.args.options.now; pool = c.args.options.now.pool; number = c.args.number; swept = 0; bytes = left c.args.source.now } in
+    let opens = run_opens g.N.RunName.packets x c.args.options.now c.requires.accepted c.args.number (left c.args.source.now) (left c.start.new.source) c.in_ok-crew.crew c.in_ok-reader.reader c.in_ok-crew.ensures c.requires.named c.in_ok-reader.ensures.header c.in_ok-reader.ensures.first c.in_ok-dispatcher.dispatcher c.in_ok-dispatcher.ensures.fresh in
+    let h = c.run_sweeps-end.ensures.ended run opens refl refl in
+    let ended = subst (λ (how : DispatcherEnd). Ends g.N.RunName.packets x run how c.run_sweeps-end.new.dispatcher c.run_sweeps-end.new.self c.run_sweeps-end.new.reader (left c.run_sweeps-end.new.source)) (ended_so c.run_sweeps-end.result (sym c.refused.ensures ∙ c.in_ok-refused.was)) h in
+    let over = over_then g.N.RunName.packets x run.terms run.pool run.number run.bytes AtEnd c.run_sweeps-end.new.dispatcher c.run_sweeps-end.new.self c.run_sweeps-end.new.reader (left c.run_sweeps-end.new.source) ended in
+    inr (ended.sent, all_read c.args.options.now.packets (left c.args.source.now) (left c.run_sweeps-end.new.source) ended.sent over, over.leaves)

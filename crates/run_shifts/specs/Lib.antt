@@ -1,0 +1,5 @@
+pub mod Work
+pub mod Desks
+pub mod Places
+pub mod Posts
+pub mod Lends

@@ -1,0 +1,11 @@
+pub mod Counts
+pub mod Notes
+pub mod Lists
+pub mod Cores
+pub mod Ends
+pub mod NewPosts
+pub mod Closings
+pub mod Starting
+pub mod Runs
+pub mod Lefts
+pub mod Opened

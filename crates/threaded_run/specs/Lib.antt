@@ -1,0 +1,4 @@
+pub mod Threaded
+pub mod Parties
+pub mod Opening
+pub mod Crew
