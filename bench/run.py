@@ -24,10 +24,10 @@ OUT = HERE / "out"
 METER = OUT / "meter"
 BUILT = HERE.parent / "crates" / "rsspp_main" / "out" / "rsspp_main"
 WORDS_REFUSED = 2  # the status of a program that doesn't know the words yet
-FEW, MANY = 1_000, 100_000  # flows
+FEW, MANY, MOST = 1_000, 100_000, 1_000_000  # flows
 SLOW = 5  # a command that takes more seconds is run once
 LIMIT = 60  # and one that takes so many is ended
-SECTIONS = ("reports", "memory", "forms", "generated", "calls", "plans")
+SECTIONS = ("reports", "threads", "memory", "forms", "generated", "calls", "plans")
 
 # Tools that its users have today. FILE stands for the capture.
 OTHERS = {
@@ -36,6 +36,9 @@ OTHERS = {
     "softflowd": f"softflowd -d -m 1000000 -p {OUT}/softflowd.pid -c {OUT}/softflowd.ctl -r FILE",
     "nfpcapd": f"nfpcapd -w {OUT}/nfpcapd -r FILE",
 }
+
+# A report is a run: on one thread in an order that a number determines, or in threads.
+RUNS = ("--serial 0", "--cores 1", "--cores 2", "--cores 4", "--cores 64")
 
 # Words in which each option stands that is built, the longest values among them.
 EACH_OPTION = "--cores 64 --buckets 512 --work count --round 1000 --limit 4 --pool 1024".split()
@@ -167,6 +170,14 @@ class Bench:
                     rows.append((name, words.replace("FILE", str(path)).split(), path))
                 else:
                     print(f"  {name:<22}skipped: not installed")
+            times(rows + self.yardsticks(path), self.runs)
+
+    def threads(self):
+        for flows in (FEW, MANY, MOST):
+            path = self.capture(flows)
+            print(f"\n== Runs over {path.stem}")
+            self.is_same_report(path)
+            rows = [(words, [self.program, "report", *words.split()], path) for words in RUNS]
             times(rows + self.yardsticks(path), self.runs)
 
     def memory(self):

@@ -52,10 +52,10 @@ module _ (count number limit : ℕ) (good : IsCapture (traffic count number) (ca
 -- a demo that was refused
 pub demo_refused : (packets : Option (List PacketInfo)) (report_of : List PacketInfo → List ℕ) (c : Command) (old new : Ends) (fault : RunFault) → IsCapture (traffic c.count c.number) (captured_from c.number 0 c.count)
     → (now : Option (List ℕ)) → Refuses c.options.packets (Some (traffic c.count c.number)) now fault → Blames fault 0 0 → Untouched old new → ExplainsDemo packets report_of c old new (Some (run_fault fault))
-demo_refused packets report_of c old new (Capture e) good now stops blames same = never_broken c.count c.number c.options.packets good e (stops.0, stops.1.1.0, stops.1.0)
+demo_refused packets report_of c old new (Capture e) good now stops blames same = never_broken c.count c.number c.options.packets good e (stops.0, stops.1.1, stops.1.0)
 demo_refused packets report_of c old new (TooMany n) good now stops blames same =
     let records = stops.0 ++ stops.1.2.0 ∷ [] in
-    let begins = stops.1.2.1.0 in
+    let begins = stops.1.2.1 in
     let long = omega (arith, stops.1.1, length-append records begins.0, length-append stops.0 (stops.1.2.0 ∷ [])) in
     (stops.1.0, too_long c.count c.number c.options.packets good (records ++ begins.0, begins.1, begins.2, long), same)
 demo_refused packets report_of c old new ReadFault good now stops blames same = absurd (omega (arith, blames))

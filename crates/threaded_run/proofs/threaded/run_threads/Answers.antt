@@ -19,6 +19,25 @@ use Rattle.threaded_run.proofs.Lefts as lefts
 use Rattle.threaded_run.proofs.Runs as runs
 use Rattle.threaded_run.proofs.threaded.run_threads.Goals as goal
 
+pub returns-in_err-passes-clause-refused : goal.returns-in_err-passes-clause-refused
+returns-in_err-passes-clause-refused g c =
+    let from = c.from_residual-in_err-passes.ensures in
+    search (rules, from)
+
+pub returns-in_err-passes-clause-cause : goal.returns-in_err-passes-clause-cause
+returns-in_err-passes-clause-cause g c =
+    let from = c.from_residual-in_err-passes.ensures in
+    search (rules, from)
+
+pub returns-in_err-dispatcher-clause-refused : goal.returns-in_err-dispatcher-clause-refused
+returns-in_err-dispatcher-clause-refused g c =
+    let left = g.S.Source.left in let j = job g.W.FlowWork.opening g.W.FlowWork.after g.N.RunName.packets in let o = c.args.options.now in
+    let place = c.in_ok-floor.floor in let crew = c.in_ok-floor.crew in let is = c.in_ok-floor.ensures in
+    let terms = lefts.terms_are j (terms_of o) place crew.dispatcher crew.senders.items crew.seat crew.load crew.cells crew.posts.items is in
+    let k : Refuses o.packets (left c.args.source.now) (left c.run_parties.new.source) c.in_err-dispatcher.field-0.0 = subst (λ (t : Terms). Refuses t.packets (left c.args.source.now) (left c.run_parties.new.source) c.in_err-dispatcher.field-0.0) terms c.in_err-dispatcher.ensures.refused in
+    let from = c.from_residual-in_err-dispatcher.ensures in
+    search (rules, k, from)
+
 pub returns-in_err-refused-clause-refused : goal.returns-in_err-refused-clause-refused
 returns-in_err-refused-clause-refused g c =
     let left = g.S.Source.left in let faults = g.S.Source.faults in let j = job g.W.FlowWork.opening g.W.FlowWork.after g.N.RunName.packets in let o = c.args.options.now in
