@@ -8,6 +8,7 @@ mod gates;
 mod hashes;
 mod ipv6;
 mod journals;
+mod lots;
 mod meeting;
 mod named;
 mod plans;

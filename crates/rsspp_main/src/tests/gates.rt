@@ -3,6 +3,7 @@ use crate::tests::captures::{SEGMENT, capture_of};
 use crate::tests::meeting::Meeting;
 use crate::tests::schedules::{of_one_flow, one_thread_report};
 use crate::tests::{WHOLE, run, run_at};
+use flow_work::Count;
 use std::alloc::Global;
 use std::sync::Wait;
 use std::test::Fail;
@@ -53,7 +54,7 @@ fn threads_fold_in_the_order_of_the_capture(rt: HostRuntime) -> Result<(), Fail>
 fn threads_with_two_cells_report_as_one_thread(rt: HostRuntime) -> Result<(), Fail> {
     let made = run(&rt, rt.alloc(), &["make", "500", "1"], &[], WHOLE)?;
     assert!(rt; !made.is_told);
-    let text = one_thread_report(rt.alloc(), &made.out)?;
+    let text = one_thread_report(rt.alloc(), &Count, &made.out)?;
     let words = ["report", "--cores", "8", "--pool", "2"];
     assert!(rt; agree(&rt, rt.alloc(), &words, &made.out, &text)?);
     Ok(())

@@ -2,7 +2,7 @@
 use crate::tests::captures::{Frame, SEGMENT, capture_of};
 use crate::tests::{WHOLE, run, run_under};
 use flow_report::report;
-use flow_work::{Count, MOST_PACKETS};
+use flow_work::{Count, FlowWork, MOST_PACKETS};
 use rss_base::{MemorySink, MemorySource};
 use rsspp_run::one_thread;
 use std::alloc::Global;
@@ -53,20 +53,24 @@ fn order_folds_alike_under_every_schedule(rt: HostRuntime) -> Result<(), Fail> {
 }
 
 /// The report of the capture's packets in one table, worked without a queue.
-pub fn one_thread_report(alloc: Global, capture: &[u8]) -> Result<Vec<u8>, Fail> {
+pub fn one_thread_report<W: FlowWork>(
+    alloc: Global,
+    work: &W,
+    capture: &[u8],
+) -> Result<Vec<u8>, Fail> {
     let mut source = MemorySource::new(capture.to_vec(alloc)?, Vec::new(alloc), Vec::new(alloc));
-    let table = one_thread(alloc, MOST_PACKETS, &Count, &mut source)?;
+    let table = one_thread(alloc, MOST_PACKETS, work, &mut source)?;
     // A count of 32 bits, as the report asks.
     let _done = table.done();
     let mut out = MemorySink::new(alloc, 1_000_000, Vec::new(alloc))?;
-    report(alloc, &Count, &[table], &mut out)?;
+    report(alloc, work, &[table], &mut out)?;
     Ok(out.bytes().to_vec(alloc)?)
 }
 
 #[test]
 fn eight_cores_with_two_cells_report_as_one_thread(rt: HostRuntime) -> Result<(), Fail> {
     let made = run(&rt, rt.alloc(), &["make", "500", "1"], &[], WHOLE)?;
-    let text = one_thread_report(rt.alloc(), &made.out)?;
+    let text = one_thread_report(rt.alloc(), &Count, &made.out)?;
     let words = ["report", "--cores", "8", "--pool", "2"];
     assert!(rt; agree(&rt, rt.alloc(), &words, 10, &made.out, &text)?);
     Ok(())
