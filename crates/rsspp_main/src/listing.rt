@@ -13,7 +13,7 @@ use packet_fields::{PacketInfo, key_text};
 use pcap_reader::{ReadError, Reader};
 use rss_base::{NoMemory, Piece, Sink, Source, Text, write_whole};
 use std::alloc::Global;
-use toeplitz::{Key, hash_info};
+use toeplitz::{Key, KeyTables};
 
 // The fault that an error of the reader is.
 fn fault_of(error: ReadError) -> TopFault
@@ -40,14 +40,14 @@ fn line_text(alloc: Global) -> Result<Text, NoMemory> {
 // Makes the line of a packet.
 fn put_line(
     number: u32,
-    key: &Key,
+    key: &KeyTables,
     spread: &Table,
     packet: &PacketInfo,
     text: &mut Text,
 ) -> Result<(), NoMemory>
     ensures { OnOk result (text.new ≡ hash_line key.now spread.now.owners number packet.now) }
 {
-    let hash = hash_info(key, packet);
+    let hash = key.hash_info(packet);
     let bucket = spread.bucket(hash);
     let core = spread.owner(bucket);
     text.clear();
@@ -69,7 +69,7 @@ fn put_line(
 fn list_packet<K: Sink>(
     failed: bool,
     number: u32,
-    key: &Key,
+    key: &KeyTables,
     spread: &Table,
     packet: &PacketInfo,
     text: &mut Text,
@@ -123,6 +123,10 @@ pub fn list_hashes<S: Source, K: Sink>(
         Ok(text) => text,
         Err(_) => return Err(TopFault::NoMemory),
     };
+    let tables = match KeyTables::new(alloc, key) {
+        Ok(tables) => tables,
+        Err(_) => return Err(TopFault::NoMemory),
+    };
     let mut reader = match Reader::start(alloc, source) {
         Ok(reader) => reader,
         Err(error) => return Err(fault_of(error)),
@@ -131,7 +135,7 @@ pub fn list_hashes<S: Source, K: Sink>(
     'packets: for number in 0..limit {
         match next_packet(&mut reader, source) {
             Ok(Some(packet)) => {
-                match list_packet(failed, number, key, spread, &packet, &mut text, out) {
+                match list_packet(failed, number, &tables, spread, &packet, &mut text, out) {
                     Ok(now) => failed = now,
                     Err(_) => return Err(TopFault::NoMemory),
                 }
