@@ -13,7 +13,7 @@ and x y h k = subst (λ (t : Bool). (t && y) ≡ true) (sym h) k
 less_is : (a b : ℕ) → a < b → ltb a b ≡ true
 less_is a b h = grind (arith, nat_tests)
 
-is_allowed : (s : Scene) (b d : ℕ) → IsAllowed s b d → allowed s b d ≡ true
+pub is_allowed : (s : Scene) (b d : ℕ) → IsAllowed s b d → allowed s b d ≡ true
 is_allowed s b d a = and (may_leave s b) (may_take s b d)
     (and _ _ (less_is _ _ a.bucket) (and _ _ (less_is _ _ a.owner) (and _ _ (less_is _ _ a.above) (and _ _ (less_is _ _ a.some) (ap not a.once)))))
     (and _ _ (less_is _ _ a.core) (and _ _ (less_is _ _ a.below) (less_is _ _ a.fits)))

@@ -5,12 +5,15 @@ pub mod Buffers
 pub mod Carried
 pub mod Choices
 pub mod Chosen
+pub mod DrawnLoads
 pub mod Falls
+pub mod Leading
 pub mod Moves
 pub mod NextLines
 pub mod Owners
 pub mod Pieces
 pub mod PlanLaw
+pub mod Ranks
 pub mod Spelled
 pub mod Sums
 pub mod Ties

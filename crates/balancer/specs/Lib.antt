@@ -3,6 +3,7 @@ pub mod BalancerView
 pub mod Better
 pub mod Greedy
 pub mod Imbalance
+pub mod Leading
 pub mod Lines
 pub mod Moves
 pub mod NextLine
@@ -13,4 +14,5 @@ pub mod PlanLines
 pub mod PlanRead
 pub mod PlanReading
 pub mod PlanText
+pub mod Ranking
 pub mod Standing

@@ -5,7 +5,9 @@ ghost use Rattle.balancer.specs.Standing.{AreLoads};
 ghost use Rattle.balancer.specs.Afterwards.{StaysMade};
 
 use crate::limits::MOST_PROPOSALS;
-use crate::round::run_round;
+use crate::ranked::Ranked;
+use crate::ranking::rank;
+use crate::round::{run_plain_round, run_round};
 use crate::weigh::weigh;
 use indirection::{Loads, MOST_BUCKETS, MOST_CORES, Proposal, Table};
 use rss_base::NoMemory;
@@ -17,6 +19,7 @@ use std::marker::Model;
 pub struct Balancer {
     owners: Vec<u8>,
     carried: Vec<u64>,
+    ranking: Vec<Ranked>,
     proposals: Vec<Proposal>,
 }
 
@@ -29,7 +32,7 @@ impl Model for Balancer {
 
     ghost view = { λ b. record { cores = length b.carried.items; buckets = length b.owners.items; proposals = b.proposals.items } };
 
-    ghost invariant = { λ b. MOST_PROPOSALS ≤ vec_capacity b.proposals };
+    ghost invariant = { λ b. (MOST_PROPOSALS ≤ vec_capacity b.proposals) × (length b.owners.items ≤ vec_capacity b.ranking) };
 }
 
 impl Balancer {
@@ -49,12 +52,16 @@ impl Balancer {
         let Ok(carried) = vec![in alloc; 0; cores as usize] else {
             return Err(NoMemory);
         };
+        let Ok(ranking) = Vec::with_capacity(alloc, buckets as usize) else {
+            return Err(NoMemory);
+        };
         let Ok(proposals) = Vec::with_capacity(alloc, MOST_PROPOSALS as usize) else {
             return Err(NoMemory);
         };
         Ok(Balancer {
             owners,
             carried,
+            ranking,
             proposals,
         })
     }
@@ -70,7 +77,29 @@ impl Balancer {
         self.owners.copy_from_slice(table.owners());
         self.proposals.clear();
         weigh(&mut self.carried, loads, &self.owners);
+        rank(&mut self.ranking, loads, &self.owners);
         run_round(
+            &mut self.carried,
+            &mut self.owners,
+            &mut self.proposals,
+            &self.ranking,
+            loads,
+            limit,
+        );
+    }
+
+    /// Makes the round by the plain choice among all pairs.
+    pub(crate) fn make_plain_round(&mut self, loads: &Loads, table: &Table, limit: u8)
+        requires cores { table.now.cores ≡ self.old.cores }
+        requires buckets { length table.now.owners ≡ self.old.buckets }
+        requires loads { AreLoads self.old.cores self.old.buckets loads.now }
+        requires limit { limit ≤ MOST_PROPOSALS }
+        ensures { self.new ≡ record self.old { proposals = greedy_round table.now.cores limit loads.now table.now.owners } }
+    {
+        self.owners.copy_from_slice(table.owners());
+        self.proposals.clear();
+        weigh(&mut self.carried, loads, &self.owners);
+        run_plain_round(
             &mut self.carried,
             &mut self.owners,
             &mut self.proposals,

@@ -20,15 +20,15 @@ fn better(first: Option<Proposal>, second: Option<Proposal>) -> Option<Proposal>
     }
 }
 
-// Whether the bucket was proposed.
-fn is_proposed(proposals: &[Proposal], bucket: u16) -> bool
+/// Whether the bucket was proposed.
+pub fn is_proposed(proposals: &[Proposal], bucket: u16) -> bool
     ensures { result ≡ list_any (λ p. p.bucket == bucket) proposals.now }
 {
     proposals.iter().any(|p| p.bucket == bucket)
 }
 
-// Whether the bucket may leave its core.
-fn may_leave(s: &Standing<'_>, total: u64, bucket: u16) -> bool
+/// Whether the bucket may leave its core.
+pub fn may_leave(s: &Standing<'_>, total: u64, bucket: u16) -> bool
     requires stands { Stands s.now }
     requires total { total ≡ sum s.now.carried.now }
     requires bucket { bucket < length s.now.owners.now }
@@ -44,8 +44,8 @@ fn may_leave(s: &Standing<'_>, total: u64, bucket: u16) -> bool
     !is_proposed(s.proposals, bucket)
 }
 
-// The proposal of a bucket that may leave its core to a core, where that may take it.
-fn offer(s: &Standing<'_>, total: u64, bucket: u16, to: u8) -> Option<Proposal>
+/// The proposal of a bucket that may leave its core to a core, where that may take it.
+pub fn offer(s: &Standing<'_>, total: u64, bucket: u16, to: u8) -> Option<Proposal>
     requires stands { Stands s.now }
     requires total { total ≡ sum s.now.carried.now }
     requires bucket { bucket < length s.now.owners.now }

@@ -1,8 +1,10 @@
 //! Rounds of moves that lower the imbalance of the measured loads, and the plan of one round.
 //!
 //! [`Balancer::propose`] is proved equal to the greedy round (`specs/Greedy.antt`), which looks at
-//! all pairs of a bucket and a core each time. [`rounds_lower`] is the law behind it: each
-//! proposal lowers the imbalance by twice the square of the number of cores times its gain.
+//! all pairs of a bucket and a core each time. It ranks the buckets once a round and finds each
+//! proposal by search; [`propose_plain`] looks at all pairs, with the same contract.
+//! [`rounds_lower`] is the law behind it: each proposal lowers the imbalance by twice the square
+//! of the number of cores times its gain.
 //!
 //! [`plan_text`] reads one instance and writes its round. It is proved against the instance that
 //! the lines of the whole text spell, or the first bad line among them (`specs/PlanForm.antt`);
@@ -11,16 +13,20 @@
 
 mod balancer;
 mod choice;
+mod free;
 mod laws;
 mod limit_laws;
 mod limits;
 mod line;
+mod nearest;
 mod number;
 mod place;
 mod plan;
 mod plan_fault;
 mod plan_line;
 mod plan_reader;
+mod ranked;
+mod ranking;
 mod round;
 mod round_text;
 mod standing;
@@ -30,7 +36,7 @@ mod weigh;
 mod window;
 
 pub use balancer::Balancer;
-pub use laws::{plans_have_lines, rounds_lower};
+pub use laws::{plans_have_lines, propose_plain, rounds_lower};
 pub use limit_laws::{limits_are_stated, plan_texts_are_stated};
 pub use limits::{MOST_LOAD, MOST_PROPOSALS};
 pub use plan::plan_text;

@@ -1,9 +1,12 @@
 // A round of proposals.
-ghost use Rattle.std.specs.Prelude.{◌≡◌, ◌≢◌, ◌≤◌, ◌<◌, ◌+◌, ◌-◌, ◌^◌, [], length, vec_capacity, slice_index, slice_set};
-ghost use Rattle.balancer.specs.Greedy.{greedy, opening};
-ghost use Rattle.balancer.specs.Standing.{IsWeighed};
+ghost use Rattle.std.specs.Prelude.{◌≡◌, ◌≢◌, ◌≤◌, ◌<◌, ◌+◌, ◌-◌, ◌^◌, ◌++◌, ◌∷◌, [], length, vec_capacity, slice_index, slice_set, Some};
+ghost use Rattle.balancer.specs.Greedy.{choices, greatest, greedy, moved, opening};
+ghost use Rattle.balancer.specs.Ranking.{IsRanking};
+ghost use Rattle.balancer.specs.Standing.{IsWeighed, scene_of};
 
 use crate::choice::best;
+use crate::nearest::best_ranked;
+use crate::ranked::Ranked;
 use crate::standing::Standing;
 use indirection::{Loads, Proposal};
 
@@ -23,8 +26,30 @@ fn make_move(carried: &mut [u64], owners: &mut [u8], load: u64, p: &Proposal)
     owners[p.bucket as usize] = p.to;
 }
 
-/// Makes a round of up to so many proposals, with what the cores carry and the owners after each.
-pub fn run_round(
+// Makes the best proposal.
+fn take_step(
+    carried: &mut [u64],
+    owners: &mut [u8],
+    proposals: &mut Vec<Proposal>,
+    loads: &Loads,
+    proposal: Proposal,
+)
+    requires weighed { IsWeighed (scene_of (length carried.old) loads.now owners.old proposals.old.items) carried.old }
+    requires best { greatest (choices (scene_of (length carried.old) loads.now owners.old proposals.old.items)) ≡ Some proposal }
+    requires room { length proposals.old.items < vec_capacity proposals.old }
+    ensures weighed { IsWeighed (scene_of (length carried.new) loads.now owners.new proposals.new.items) carried.new }
+    ensures moved { scene_of (length carried.new) loads.now owners.new proposals.new.items ≡ moved (scene_of (length carried.old) loads.now owners.old proposals.old.items) proposal }
+    ensures proposals { proposals.new.items ≡ proposals.old.items ++ proposal ∷ [] }
+    ensures room { vec_capacity proposals.new ≡ vec_capacity proposals.old }
+{
+    let load = loads.bucket()[proposal.bucket as usize];
+    make_move(carried, owners, load, &proposal);
+    proposals.push_reserved(proposal);
+}
+
+/// Makes a round of up to so many proposals, with what the cores carry and the owners after each,
+/// by the plain choice among all pairs.
+pub fn run_plain_round(
     carried: &mut [u64],
     owners: &mut [u8],
     proposals: &mut Vec<Proposal>,
@@ -37,7 +62,7 @@ pub fn run_round(
     ensures proposals { proposals.new.items ≡ greedy limit (opening (length carried.old) loads.now owners.old) }
     ensures room { vec_capacity proposals.new ≡ vec_capacity proposals.old }
 {
-    'round: for _ in 0..limit {
+    'plain: for _ in 0..limit {
         let standing = Standing {
             loads,
             owners,
@@ -47,8 +72,37 @@ pub fn run_round(
         let Some(proposal) = best(&standing) else {
             return;
         };
-        let load = loads.bucket()[proposal.bucket as usize];
-        make_move(carried, owners, load, &proposal);
-        proposals.push_reserved(proposal);
+        take_step(carried, owners, proposals, loads, proposal);
+    }
+}
+
+/// Makes a round of up to so many proposals, with what the cores carry and the owners after each,
+/// by search in the ranking of the buckets before the round.
+pub fn run_round(
+    carried: &mut [u64],
+    owners: &mut [u8],
+    proposals: &mut Vec<Proposal>,
+    ranking: &[Ranked],
+    loads: &Loads,
+    limit: u8,
+)
+    requires weighed { IsWeighed (opening (length carried.old) loads.now owners.old) carried.old }
+    requires ranking { IsRanking loads.now owners.old [] ranking.now }
+    requires empty { proposals.old.items ≡ [] }
+    requires room { limit ≤ vec_capacity proposals.old }
+    ensures proposals { proposals.new.items ≡ greedy limit (opening (length carried.old) loads.now owners.old) }
+    ensures room { vec_capacity proposals.new ≡ vec_capacity proposals.old }
+{
+    'round: for _ in 0..limit {
+        let standing = Standing {
+            loads,
+            owners,
+            carried,
+            proposals,
+        };
+        let Some(proposal) = best_ranked(&standing, ranking) else {
+            return;
+        };
+        take_step(carried, owners, proposals, loads, proposal);
     }
 }

@@ -1,4 +1,5 @@
 // Plans over memory ends: worked instances, broken lines, and calls that fail.
+mod bodies;
 mod lines;
 mod rounds;
 

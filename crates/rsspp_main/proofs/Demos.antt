@@ -56,7 +56,7 @@ demo_refused packets report_of c old new (Capture e) good now stops blames same 
 demo_refused packets report_of c old new (TooMany n) good now stops blames same =
     let records = stops.0 ++ stops.1.2.0 ∷ [] in
     let begins = stops.1.2.1 in
-    let long = omega (arith, stops.1.1, length-append records begins.0, length-append stops.0 (stops.1.2.0 ∷ [])) in
+    let long : c.options.packets < length (records ++ begins.0) = omega (arith, stops.1.1, length-append records begins.0, length-append stops.0 (stops.1.2.0 ∷ [])) in
     (stops.1.0, too_long c.count c.number c.options.packets good (records ++ begins.0, begins.1, begins.2, long), same)
 demo_refused packets report_of c old new ReadFault good now stops blames same = absurd (omega (arith, blames))
 demo_refused packets report_of c old new NoMemory good now stops blames same = same

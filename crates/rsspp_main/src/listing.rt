@@ -13,7 +13,7 @@ use packet_fields::{PacketInfo, key_text};
 use pcap_reader::{ReadError, Reader};
 use rss_base::{NoMemory, Piece, Sink, Source, Text, write_whole};
 use std::alloc::Global;
-use toeplitz::{Key, KeyTables};
+use toeplitz::KeyTables;
 
 // The fault that an error of the reader is.
 fn fault_of(error: ReadError) -> TopFault
@@ -108,7 +108,7 @@ fn ended(failed: bool) -> Result<(), TopFault>
 pub fn list_hashes<S: Source, K: Sink>(
     alloc: Global,
     limit: u32,
-    key: &Key,
+    key: &KeyTables,
     spread: &Table,
     source: &mut S,
     out: &mut K,
@@ -123,10 +123,6 @@ pub fn list_hashes<S: Source, K: Sink>(
         Ok(text) => text,
         Err(_) => return Err(TopFault::NoMemory),
     };
-    let tables = match KeyTables::new(alloc, key) {
-        Ok(tables) => tables,
-        Err(_) => return Err(TopFault::NoMemory),
-    };
     let mut reader = match Reader::start(alloc, source) {
         Ok(reader) => reader,
         Err(error) => return Err(fault_of(error)),
@@ -135,7 +131,7 @@ pub fn list_hashes<S: Source, K: Sink>(
     'packets: for number in 0..limit {
         match next_packet(&mut reader, source) {
             Ok(Some(packet)) => {
-                match list_packet(failed, number, &tables, spread, &packet, &mut text, out) {
+                match list_packet(failed, number, key, spread, &packet, &mut text, out) {
                     Ok(now) => failed = now,
                     Err(_) => return Err(TopFault::NoMemory),
                 }

@@ -13,6 +13,7 @@ use balancer::{PlanFault, plan_text};
 use command_words::Command;
 use rss_base::{Sink, Source};
 use std::alloc::Global;
+use toeplitz::KeyTables;
 use traffic_gen::{MOST_RECORDS, make};
 
 /// Lists the hash, bucket and core of each packet of the capture on the source, by the command's
@@ -31,8 +32,11 @@ pub fn hash_listing<S: Source, K: Sink>(
     ensures origin { S.origin source.new ≡ S.origin source.old }
 {
     let options = &command.options;
-    let limit = options.packets;
-    list_hashes(alloc, limit, &options.key, &options.start, source, out)
+    let key = match KeyTables::new(alloc, &options.key) {
+        Ok(key) => key,
+        Err(_) => return Err(TopFault::NoMemory),
+    };
+    list_hashes(alloc, options.packets, &key, &options.start, source, out)
 }
 
 // The fault that a fault of a plan is.

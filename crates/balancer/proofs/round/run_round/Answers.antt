@@ -1,9 +1,11 @@
-use Rattle.std.proofs.Common.{◌≡◌, ℕ, ◌+◌, ◌-◌, ◌<◌, ◌++◌, List, Some, None, length, get_or, set, ap, sym, ◌∙◌, subst, arith, refl}
-use Rattle.std.proofs.lemmas.List.{append-nil}
+use Rattle.std.proofs.Common.{◌≡◌, ℕ, ◌+◌, ◌-◌, ◌++◌, List, Some, None, length, map, ap, sym, ◌∙◌, subst, arith, refl}
+use Rattle.std.proofs.lemmas.List.{append-nil, length_push}
 use Rattle.indirection.specs.declared.proposal.Proposal.{Proposal}
 use Rattle.balancer.specs.Greedy.{Scene, greedy, moved, opening, choices, greatest}
+use Rattle.balancer.specs.Ranking.{IsRanking}
 use Rattle.balancer.specs.Standing.{scene_of, IsWeighed}
-use Rattle.balancer.proofs.Moves.{ready, weighed-moved, same_scene, greedy_none, round_step}
+use Rattle.balancer.proofs.Moves.{greedy_none, round_step}
+use Rattle.balancer.proofs.Ranks.{ranking-moved}
 use Rattle.balancer.proofs.round.run_round.Goals as goal
 
 pub round-init : goal.round-init
@@ -13,41 +15,33 @@ round-init c = record {
       (sym c.requires.empty) (let h : c.args.limit ≡ c.args.limit - 0 = omega arith in ap (λ (n : ℕ). greedy n (opening (length c.args.carried.now) c.args.loads.now c.args.owners.now)) h);
   few = let h = ap (λ (ps : List Proposal). length ps) c.requires.empty in omega (arith, h, c.args.proposals.now.ok);
   room = refl;
+  ranking = subst (λ (ps : List Proposal). IsRanking c.args.loads.now c.args.owners.now (map (λ (p : Proposal). p.bucket) ps) c.args.ranking.now) (sym c.requires.empty) c.requires.ranking;
 }
+
+pub best_ranked-requires : goal.best_ranked-requires
+best_ranked-requires c = rw c.deref.ensures.value (record { stands = c.round.invariant.weighed; ranking = c.round.invariant.ranking })
 
 pub returns-in_default-clause-proposals : goal.returns-in_default-clause-proposals
 returns-in_default-clause-proposals c =
-    let none : greatest (choices (scene_of (length c.round.carried) c.args.loads.now c.round.owners c.round.proposals.items)) ≡ None = sym (ap (λ (ps : List Proposal). greatest (choices (scene_of (length c.round.carried) c.args.loads.now c.round.owners ps))) c.deref.ensures.value) ∙ (sym c.best.ensures ∙ c.in_default.is) in
+    let none : greatest (choices (scene_of (length c.round.carried) c.args.loads.now c.round.owners c.round.proposals.items)) ≡ None = sym (ap (λ (ps : List Proposal). greatest (choices (scene_of (length c.round.carried) c.args.loads.now c.round.owners ps))) c.deref.ensures.value) ∙ (sym c.best_ranked.ensures ∙ c.in_default.is) in
     sym (c.round.invariant.so_far ∙ (ap (λ (z : List Proposal). c.round.proposals.items ++ z) (greedy_none (c.args.limit - c.round.counter) (scene_of (length c.round.carried) c.args.loads.now c.round.owners c.round.proposals.items) none) ∙ append-nil c.round.proposals.items))
 
-pub bounds-bucket-proposal : goal.bounds-bucket-proposal
-bounds-bucket-proposal c =
-    let chosen : greatest (choices (scene_of (length c.round.carried) c.args.loads.now c.round.owners c.round.proposals.items)) ≡ Some c.in-Some.proposal = sym (ap (λ (ps : List Proposal). greatest (choices (scene_of (length c.round.carried) c.args.loads.now c.round.owners ps))) c.deref.ensures.value) ∙ (sym c.best.ensures ∙ c.in-Some.is) in
-    let r = ready (scene_of (length c.round.carried) c.args.loads.now c.round.owners c.round.proposals.items) c.round.carried c.in-Some.proposal c.round.invariant.weighed chosen in
-    subst (λ (z : List ℕ). c.in-Some.proposal.bucket < length z) (sym c.bucket.ensures) r.load
-
-pub make_move-requires : goal.make_move-requires
-make_move-requires c =
-    let chosen : greatest (choices (scene_of (length c.round.carried) c.args.loads.now c.round.owners c.round.proposals.items)) ≡ Some c.in-Some.proposal = sym (ap (λ (ps : List Proposal). greatest (choices (scene_of (length c.round.carried) c.args.loads.now c.round.owners ps))) c.deref.ensures.value) ∙ (sym c.best.ensures ∙ c.in-Some.is) in
-    let r = ready (scene_of (length c.round.carried) c.args.loads.now c.round.owners c.round.proposals.items) c.round.carried c.in-Some.proposal c.round.invariant.weighed chosen in
-    rw c.bucket.ensures (record { bucket = r.allowed.bucket; from = r.from; to = r.to; some = r.some; apart = r.apart; fits = r.fits })
+pub take_step-requires : goal.take_step-requires
+take_step-requires c =
+    let chosen : greatest (choices (scene_of (length c.round.carried) c.args.loads.now c.round.owners c.round.proposals.items)) ≡ Some c.in-Some.proposal = sym (ap (λ (ps : List Proposal). greatest (choices (scene_of (length c.round.carried) c.args.loads.now c.round.owners ps))) c.deref.ensures.value) ∙ (sym c.best_ranked.ensures ∙ c.in-Some.is) in
+    record { weighed = c.round.invariant.weighed; best = chosen; room = omega (arith, c.round.invariant.few, c.round.invariant.room, c.round-test.true, c.requires.room, c.round.proposals.ok) }
 
 pub round-preserved : goal.round-preserved
 round-preserved c =
-    let chosen : greatest (choices (scene_of (length c.round.carried) c.args.loads.now c.round.owners c.round.proposals.items)) ≡ Some c.in-Some.proposal = sym (ap (λ (ps : List Proposal). greatest (choices (scene_of (length c.round.carried) c.args.loads.now c.round.owners ps))) c.deref.ensures.value) ∙ (sym c.best.ensures ∙ c.in-Some.is) in
-    let r = ready (scene_of (length c.round.carried) c.args.loads.now c.round.owners c.round.proposals.items) c.round.carried c.in-Some.proposal c.round.invariant.weighed chosen in
-    let load : get_or c.bucket.result.now c.in-Some.proposal.bucket 0 ≡ get_or c.args.loads.now.bucket c.in-Some.proposal.bucket 0 = ap (λ (z : List ℕ). get_or z c.in-Some.proposal.bucket 0) c.bucket.ensures in
-    let after : c.make_move.new.carried ≡ set (set c.round.carried c.in-Some.proposal.from (get_or c.round.carried c.in-Some.proposal.from 0 - get_or c.args.loads.now.bucket c.in-Some.proposal.bucket 0)) c.in-Some.proposal.to (get_or c.round.carried c.in-Some.proposal.to 0 + get_or c.args.loads.now.bucket c.in-Some.proposal.bucket 0)
-    = c.make_move.ensures.carried ∙ ap (λ (x : ℕ). set (set c.round.carried c.in-Some.proposal.from (get_or c.round.carried c.in-Some.proposal.from 0 - x)) c.in-Some.proposal.to (get_or c.round.carried c.in-Some.proposal.to 0 + x)) load in
-    let long : length c.make_move.new.carried ≡ length c.round.carried = c.make_move.auto.carried in
-    let same = same_scene c.args.loads.now c.round.carried c.make_move.new.carried c.round.owners c.make_move.new.owners c.round.proposals.items c.push_reserved.new.self.items c.in-Some.proposal long c.make_move.ensures.owners c.push_reserved.ensures.items in
+    let chosen : greatest (choices (scene_of (length c.round.carried) c.args.loads.now c.round.owners c.round.proposals.items)) ≡ Some c.in-Some.proposal = sym (ap (λ (ps : List Proposal). greatest (choices (scene_of (length c.round.carried) c.args.loads.now c.round.owners ps))) c.deref.ensures.value) ∙ (sym c.best_ranked.ensures ∙ c.in-Some.is) in
     record {
-      weighed = subst (λ (s : Scene). IsWeighed s c.make_move.new.carried) same (weighed-moved (scene_of (length c.round.carried) c.args.loads.now c.round.owners c.round.proposals.items) c.round.carried c.make_move.new.carried c.make_move.new.owners c.in-Some.proposal c.round.invariant.weighed r c.make_move.ensures.owners after);
-      so_far = subst (λ (s : Scene). greedy c.args.limit (opening (length c.args.carried.now) c.args.loads.now c.args.owners.now) ≡ c.push_reserved.new.self.items ++ greedy (c.args.limit - (c.round.counter + 1)) s) same
-          (subst (λ (ps : List Proposal). greedy c.args.limit (opening (length c.args.carried.now) c.args.loads.now c.args.owners.now) ≡ ps ++ greedy (c.args.limit - (c.round.counter + 1)) (moved (scene_of (length c.round.carried) c.args.loads.now c.round.owners c.round.proposals.items) c.in-Some.proposal)) (sym c.push_reserved.ensures.items)
+      weighed = c.take_step.ensures.weighed;
+      so_far = subst (λ (s : Scene). greedy c.args.limit (opening (length c.args.carried.now) c.args.loads.now c.args.owners.now) ≡ c.take_step.new.proposals.items ++ greedy (c.args.limit - (c.round.counter + 1)) s) (sym c.take_step.ensures.moved)
+          (subst (λ (ps : List Proposal). greedy c.args.limit (opening (length c.args.carried.now) c.args.loads.now c.args.owners.now) ≡ ps ++ greedy (c.args.limit - (c.round.counter + 1)) (moved (scene_of (length c.round.carried) c.args.loads.now c.round.owners c.round.proposals.items) c.in-Some.proposal)) (sym c.take_step.ensures.proposals)
           (round_step c.args.limit c.round.counter _ c.round.proposals.items (scene_of (length c.round.carried) c.args.loads.now c.round.owners c.round.proposals.items) c.in-Some.proposal c.round-test.true chosen c.round.invariant.so_far));
-      few = omega (arith, c.push_reserved.ensures.len, c.round.invariant.few);
-      room = c.push_reserved.ensures.capacity ∙ c.round.invariant.room;
+      few = omega (arith, ap (λ (ps : List Proposal). length ps) c.take_step.ensures.proposals, length_push c.round.proposals.items c.in-Some.proposal, c.round.invariant.few, c.round.proposals.ok, c.take_step.new.proposals.ok);
+      room = c.take_step.ensures.room ∙ c.round.invariant.room;
+      ranking = subst (λ (s : Scene). IsRanking s.loads s.owners s.taken c.args.ranking.now) (sym c.take_step.ensures.moved) (ranking-moved c.args.loads.now c.round.owners (map (λ (p : Proposal). p.bucket) c.round.proposals.items) c.args.ranking.now c.in-Some.proposal.bucket c.in-Some.proposal.to c.round.invariant.ranking);
     }
 
 pub returns-clause-proposals : goal.returns-clause-proposals
