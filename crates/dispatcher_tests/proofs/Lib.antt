@@ -1,0 +1,4 @@
+pub mod Begins
+pub mod Lanes
+pub mod Rigs
+pub mod Tables
