@@ -1,4 +1,5 @@
-use Rattle.std.proofs.Common.{length, refl}
+use Rattle.std.proofs.Common.{Some, length, refl}
+use Rattle.traffic_gen.specs.Source.{left_of}
 use Rattle.flow_report.specs.Report.{report}
 use Rattle.rsspp_main.specs.Reports.{bucket_by}
 use Rattle.rsspp_main.specs.Run.{ends}
@@ -11,8 +12,9 @@ returns-in-Err g c = record {
       let W = g.W.FlowWork in
       let now = ends left reads (g.K.Sink.faults c.args.out.now) (g.K.Sink.may_hold c.args.out.now) in
       let command = c.args.command.now in
+      let refused = rw c.new-source.ensures at c.in-Err.ensures.refused in
       rw c.fault_of_run.ensures (demo_refused g.N.RunName.packets (report W.opening W.after W.line_text) command now now c.in-Err.fault (c.good_capture.ensures command.count command.number c.requires.few)
-      _ (rw c.new-source.ensures at c.in-Err.ensures.refused) c.in-Err.ensures.cause (record { left = refl; reads = refl; writes = refl; silent = λ bytes h. h }));
+      (Some (left_of c.run_to_report.new.source)) refused c.in-Err.ensures.cause (record { left = refl; reads = refl; writes = refl; silent = λ bytes h. h }));
 }
 
 pub returns-in-Ok : goal.returns-in-Ok

@@ -1,4 +1,5 @@
-use Rattle.std.proofs.Common.{List, length, refl, subst}
+use Rattle.std.proofs.Common.{List, Some, length, refl, subst}
+use Rattle.traffic_gen.specs.Source.{left_of}
 use Rattle.flow_report.specs.Report.{report}
 use Rattle.packet_fields.specs.declared.packet.PacketInfo.{PacketInfo}
 use Rattle.dispatch_loop.specs.Terms.{terms_of}
@@ -14,8 +15,9 @@ returns-in-Err-clause-outcome g c = λ left reads.
     let W = g.W.FlowWork in
     let now = ends left reads (g.K.Sink.faults c.args.out.now) (g.K.Sink.may_hold c.args.out.now) in
     let command = c.args.command.now in
+    let refused = rw c.new-traffic.ensures at c.in-Err.ensures.refused in
     rw c.fault_of_run.ensures (demo_refused g.N.RunName.packets (report W.opening W.after W.line_text) command now now c.in-Err.fault (c.good_capture.ensures command.count command.number c.requires.few)
-    _ (rw c.new-traffic.ensures at c.in-Err.ensures.refused) c.in-Err.ensures.cause (record { left = refl; reads = refl; writes = refl; silent = λ bytes h. h }))
+    (Some (left_of c.threads_to_report.new.source)) refused c.in-Err.ensures.cause (record { left = refl; reads = refl; writes = refl; silent = λ bytes h. h }))
 
 pub returns-in-Ok-tell_demo : goal.returns-in-Ok-tell_demo
 returns-in-Ok-tell_demo g c =
