@@ -1,0 +1,127 @@
+// Runs whose journals and custodies are worked by hand.
+ghost use Rattle.std.specs.Prelude.{◌≡◌, IfOk};
+ghost use Rattle.dispatch_loop.specs.Accepted.{IsAccepted};
+
+use crate::capture::capture;
+use crate::run::{Ran, run};
+use bucket_table::{BucketTable, Custody};
+use dispatch_loop::{DispatcherEnd, Options};
+use flow_work::{OrderFold, WorkName};
+use indirection::{Entry, Journal, MoveOrder, Outcome, Table};
+use packet_fields::NoName;
+use std::alloc::Global;
+use std::sync::Wait;
+use std::test::Fail;
+use toeplitz::DEFAULT_KEY;
+
+// Whether the entries of a journal are these orders, with what came of them.
+fn has_orders(journal: &Journal, orders: &[(MoveOrder, Outcome)]) -> bool {
+    let entries = journal.entries();
+    if entries.len() != orders.len() {
+        return false;
+    }
+    for (entry, (order, outcome)) in entries.iter().zip(orders.iter()) {
+        let same = match entry {
+            Entry::Round(_) => false,
+            Entry::Order(entry) => entry.order == *order && entry.outcome == *outcome,
+        };
+        if !same {
+            return false;
+        }
+    }
+    true
+}
+
+// The only bucket goes to core 1 behind two packets, and back behind five.
+const THERE: MoveOrder = MoveOrder {
+    at: 2,
+    bucket: 0,
+    to: 1,
+};
+
+const BACK: MoveOrder = MoveOrder {
+    at: 5,
+    bucket: 0,
+    to: 0,
+};
+
+// Two cores and one bucket, which goes there and back.
+fn handovers(alloc: Global) -> Result<Options, Fail>
+    ensures accepted { IfOk result IsAccepted }
+    ensures cores { IfOk result (λ o. o.cores ≡ 2) }
+{
+    let start = Table::new(alloc, 2, 1)?;
+    Ok(Options {
+        key: DEFAULT_KEY,
+        cores: 2,
+        start,
+        work: WorkName::OrderFold,
+        moves: vec![in alloc; THERE, BACK]?,
+        round: 1_000,
+        limit: 4,
+        pool: 16,
+        packets: 6,
+    })
+}
+
+const fn custody(core: u8, from: u32, to: u32) -> Custody {
+    Custody {
+        bucket: 0,
+        core,
+        from,
+        to,
+    }
+}
+
+// What the lengths 60, 70, 80, 60, 70 and 80 make of each other in this order.
+const NUMBER: u32 = 1_784_838_720;
+
+// The number of the only flow of a table.
+fn only(table: &BucketTable<OrderFold>) -> Option<u32> {
+    if table.flow_count() == 1 {
+        Some(*table.flow(0).1)
+    } else {
+        None
+    }
+}
+
+// Whether all parties finished, and each packet was worked once and in order.
+fn is_whole(ran: &Ran<OrderFold>) -> bool {
+    let Some(table) = &ran.table else {
+        return false;
+    };
+    ran.end == Some(DispatcherEnd::AtEnd)
+        && only(table) == Some(NUMBER)
+        && table.bytes() == 420
+        && !ran.dispatcher.short()
+}
+
+fn six_packets<R: Wait>(rt: &R, alloc: Global, number: u32) -> Result<Ran<OrderFold>, Fail> {
+    let bytes = capture(alloc, &[60, 70, 80, 60, 70, 80])?;
+    let options = handovers(alloc)?;
+    run::<OrderFold, NoName, R>(rt, alloc, &options, &OrderFold, bytes, number)
+}
+
+#[test]
+fn a_bucket_is_handed_over_and_back(rt: HostRuntime) -> Result<(), Fail> {
+    let ran = six_packets(&rt, rt.alloc(), 0)?;
+    let orders = [
+        (THERE, Outcome::Moved { tail: 2 }),
+        (BACK, Outcome::Moved { tail: 5 }),
+    ];
+    assert!(rt; is_whole(&ran));
+    assert!(rt; has_orders(ran.dispatcher.journal(), &orders));
+    assert!(rt; ran.first.log() == [custody(0, 0, 2), custody(0, 5, 6)].as_slice());
+    assert!(rt; ran.second.log() == [custody(1, 2, 5)].as_slice());
+    assert_eq!(rt; (ran.first.worked(), ran.second.worked()), (3, 3));
+    Ok(())
+}
+
+#[test]
+fn each_order_of_turns_keeps_the_order_of_packets(rt: HostRuntime) -> Result<(), Fail> {
+    for number in [1, 65_536, 131_072, 2_654_435_769, 4_294_967_295] {
+        let ran = six_packets(&rt, rt.alloc(), number)?;
+        assert!(rt; is_whole(&ran));
+    }
+    Ok(())
+}
