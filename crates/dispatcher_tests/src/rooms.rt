@@ -79,6 +79,37 @@ fn what_lacks_a_cell_is_tried_again(rt: HostRuntime) -> Result<(), Fail> {
 }
 
 #[test]
+fn a_packet_that_meets_a_full_lane_is_kept(rt: HostRuntime) -> Result<(), Fail> {
+    let alloc = rt.alloc();
+    let bytes = capture(alloc, &[&EVEN, &EVEN, &EVEN])?;
+    let mut rig = Rig::new(alloc, &options(alloc, 3)?, bytes, Vec::new(alloc), 2)?;
+    let steps = [
+        Turn(Sent),
+        Turn(Sent),
+        Turn(Ordered), // nobody has claimed the table, so the bucket stays
+        Turn(LaneFull { core: 0 }),
+        Turn(LaneFull { core: 0 }),
+        Step::took(0, First, 0, 0),
+        Turn(Sent),
+        Step::took(0, Next, 0, 1),
+        Turn(EndSent),
+        Turn(EndSent),
+        Turn(Finished(DispatcherEnd::AtEnd)),
+        Step::took(0, Next, 0, 2),
+        Step::took_end(0),
+        Step::took_end(1),
+    ];
+    assert_eq!(rt; rig.differs_at(&steps), None);
+    let unclaimed = Outcome::InPassage {
+        tail: 0,
+        sent: 2,
+        word: Some(1),
+    };
+    assert!(rt; has_orders(rig.journal(), &[(THERE, unclaimed)]));
+    Ok(())
+}
+
+#[test]
 fn what_meets_a_full_lane_is_tried_again(rt: HostRuntime) -> Result<(), Fail> {
     let alloc = rt.alloc();
     let bytes = capture(alloc, &[&EVEN, &EVEN, &EVEN])?;
