@@ -39,7 +39,7 @@ def main():
             yield took.processor / asked.packets * 1e9, took.clock / asked.packets * 1e9
 
     print(f"{machine()}, best of {asked.runs} runs of {asked.packets:,} packets")
-    for buckets in (1, 128, 512):
+    for buckets in (1, 128, 512, 2048):
         (local, _), (shared, _) = best(through("local", buckets), through("shared", buckets))
         print(
             f"one thread, {buckets} buckets: {local:.0f} ns of processor for a packet through local ends, "

@@ -27,10 +27,10 @@ buckets-start cores (Some xs) = ([], record { owners_are = refl; loads_are = ref
   same (Ok bs) = refl
   same (Err k) = refl
 
-at_line : (cores number : ℕ) (l : List ℕ) (ls : List (List ℕ)) → number < 516 → buckets_from cores number (l ∷ ls) ≡ in_front (ok_or (bucket_line cores l) number) (buckets_from cores (number + 1) ls)
-at_line cores number l ls h = ap (λ (t : Bool). if t then in_front (ok_or (bucket_line cores l) number) (buckets_from cores (number + 1) ls) else Err number) (less_is number 516 h)
+at_line : (cores number : ℕ) (l : List ℕ) (ls : List (List ℕ)) → number < 2052 → buckets_from cores number (l ∷ ls) ≡ in_front (ok_or (bucket_line cores l) number) (buckets_from cores (number + 1) ls)
+at_line cores number l ls h = ap (λ (t : Bool). if t then in_front (ok_or (bucket_line cores l) number) (buckets_from cores (number + 1) ls) else Err number) (less_is number 2052 h)
 
-pub buckets-more : (cores number : ℕ) (before now after : Option (List ℕ)) (owners loads : List ℕ) (b : Bucket) → number < 516 → BucketsSoFar cores number before now owners loads → TakesAs (bucket_line cores) now after b
+pub buckets-more : (cores number : ℕ) (before now after : Option (List ℕ)) (owners loads : List ℕ) (b : Bucket) → number < 2052 → BucketsSoFar cores number before now owners loads → TakesAs (bucket_line cores) now after b
     → BucketsSoFar cores (number + 1) before after (owners ++ b.owner ∷ []) (loads ++ b.load ∷ [])
 buckets-more cores number None now after owners loads b h so t = tt
 buckets-more cores number (Some xs) None after owners loads b h so t = absurd so

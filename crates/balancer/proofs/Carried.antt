@@ -54,14 +54,14 @@ weighed-more base xs os ws i hi same ho inv k hk =
     (cases_eq o k))
 
 -- what a core carries is small
-small_load : (cores : ℕ) (loads : LoadsView) (owners : List ℕ) → AreLoads cores (length owners) loads → length owners ≤ 512 → (c : ℕ) → c < cores → load loads owners c ≤ 513 * 2 ^ 40
+small_load : (cores : ℕ) (loads : LoadsView) (owners : List ℕ) → AreLoads cores (length owners) loads → length owners ≤ 2048 → (c : ℕ) → c < cores → load loads owners c ≤ 2049 * 2 ^ 40
 small_load cores loads owners are few c h =
     let a = All-get_or (λ b. b ≤ 2 ^ 40) loads.base c 0 (subst (λ (n : ℕ). c < n) (sym are.cores_are) h) are.base in
     let b = owned-le c (2 ^ 40) owners loads.bucket are.load in
     let m = mul-le-mul_right (2 ^ 40) few in omega arith
 
-pub small_loads : (cores : ℕ) (loads : LoadsView) (owners : List ℕ) → AreLoads cores (length owners) loads → length owners ≤ 512 → All (λ load. load ≤ 2 ^ 50) (core_loads cores loads owners)
-small_loads cores loads owners are few = All-from_get_or (λ load. load ≤ 2 ^ 50) (core_loads cores loads owners) 0 (λ c h.
+pub small_loads : (cores : ℕ) (loads : LoadsView) (owners : List ℕ) → AreLoads cores (length owners) loads → length owners ≤ 2048 → All (λ load. load ≤ 2 ^ 52) (core_loads cores loads owners)
+small_loads cores loads owners are few = All-from_get_or (λ load. load ≤ 2 ^ 52) (core_loads cores loads owners) 0 (λ c h.
     let g : c < cores = subst (λ (n : ℕ). c < n) (length-map (upto cores) (load loads owners) ∙ length-upto cores) h in
     let l = small_load cores loads owners are few c g in
     let v = value_at (load loads owners) cores c g in omega arith)
@@ -73,27 +73,27 @@ carried_at s carried w c h = ap (λ (z : List ℕ). get_or z c 0) w.carried_are 
 pub length_is : (s : Scene) (carried : List ℕ) → IsWeighed s carried → length carried ≡ s.cores
 length_is s carried w = ap (λ (z : List ℕ). length z) w.carried_are ∙ (length-map (upto s.cores) (load s.loads s.owners) ∙ length-upto s.cores)
 
-pub load-le : (s : Scene) (carried : List ℕ) → IsWeighed s carried → (c : ℕ) → c < s.cores → load_in s c ≤ 513 * 2 ^ 40
+pub load-le : (s : Scene) (carried : List ℕ) → IsWeighed s carried → (c : ℕ) → c < s.cores → load_in s c ≤ 2049 * 2 ^ 40
 load-le s carried w c h = small_load s.cores s.loads s.owners w.loads w.buckets c h
 
-pub carried-le : (s : Scene) (carried : List ℕ) → IsWeighed s carried → (c : ℕ) → c < length carried → get_or carried c 0 ≤ 513 * 2 ^ 40
+pub carried-le : (s : Scene) (carried : List ℕ) → IsWeighed s carried → (c : ℕ) → c < length carried → get_or carried c 0 ≤ 2049 * 2 ^ 40
 carried-le s carried w c h = let g : c < s.cores = subst (λ (n : ℕ). c < n) (length_is s carried w) h in
-    subst (λ (n : ℕ). n ≤ 513 * 2 ^ 40) (sym (carried_at s carried w c g)) (load-le s carried w c g)
+    subst (λ (n : ℕ). n ≤ 2049 * 2 ^ 40) (sym (carried_at s carried w c g)) (load-le s carried w c g)
 
 pub few_cores : (s : Scene) (carried : List ℕ) → IsWeighed s carried → length carried ≤ 64
 few_cores s carried w = subst (λ (n : ℕ). n ≤ 64) (sym (length_is s carried w)) w.cores
 
-pub product-le : (n x : ℕ) → n ≤ 64 → x ≤ 513 * 2 ^ 40 → n * x ≤ 64 * (513 * 2 ^ 40)
+pub product-le : (n x : ℕ) → n ≤ 64 → x ≤ 2049 * 2 ^ 40 → n * x ≤ 64 * (2049 * 2 ^ 40)
 product-le n x h g = let a = mul-le-mul_right x h in let b = mul-le-mul_left 64 g in omega arith
 
 -- all cores together
-pub total-le : (s : Scene) (carried : List ℕ) → IsWeighed s carried → sum carried ≤ 64 * (513 * 2 ^ 40)
+pub total-le : (s : Scene) (carried : List ℕ) → IsWeighed s carried → sum carried ≤ 64 * (2049 * 2 ^ 40)
 total-le s carried w =
-    let a = sum_by-le (λ x. x) (513 * 2 ^ 40) carried (All-from_get_or (λ x. x ≤ 513 * 2 ^ 40) carried 0 (carried-le s carried w)) in
-    let b = mul-le-mul_right (513 * 2 ^ 40) (few_cores s carried w) in omega arith
+    let a = sum_by-le (λ x. x) (2049 * 2 ^ 40) carried (All-from_get_or (λ x. x ≤ 2049 * 2 ^ 40) carried 0 (carried-le s carried w)) in
+    let b = mul-le-mul_right (2049 * 2 ^ 40) (few_cores s carried w) in omega arith
 
 -- the sum of a load and what its owner has so far fits
-pub weighed-fits : (base xs os ws : List ℕ) (i : ℕ) → i < length os → length os ≤ 512 → length os ≡ length ws → All (λ w. w ≤ 2 ^ 40) ws → All (λ b. b ≤ 2 ^ 40) base
+pub weighed-fits : (base xs os ws : List ℕ) (i : ℕ) → i < length os → length os ≤ 2048 → length os ≡ length ws → All (λ w. w ≤ 2 ^ 40) ws → All (λ b. b ≤ 2 ^ 40) base
     → length xs ≡ length base → get_or os i 0 < length xs → ((k : ℕ) → k < length xs → get_or xs k 0 ≡ get_or base k 0 + owned k (take i os) (take i ws))
     → get_or xs (get_or os i 0) 0 + get_or ws i 0 < 2 ^ 64
 weighed-fits base xs os ws i hi few same small light long ho inv =
@@ -101,9 +101,9 @@ weighed-fits base xs os ws i hi few same small light long ho inv =
     let w : get_or ws i 0 ≤ 2 ^ 40 = All-get_or (λ w. w ≤ 2 ^ 40) ws i 0 (subst (λ (n : ℕ). i < n) same hi) small in
     let b : get_or base o 0 ≤ 2 ^ 40 = All-get_or (λ b. b ≤ 2 ^ 40) base o 0 (subst (λ (n : ℕ). o < n) long ho) light in
     let l : owned o (take i os) (take i ws) ≤ length (take i os) * 2 ^ 40 = owned-le o (2 ^ 40) (take i os) (take i ws) (All-take (λ w. w ≤ 2 ^ 40) i ws small) in
-    let n : length (take i os) ≤ 512 = omega (arith, length-take i os) in
+    let n : length (take i os) ≤ 2048 = omega (arith, length-take i os) in
     let m = mul-le-mul_right (2 ^ 40) n in
     let v = inv o ho in omega arith
 
-pub sum-le : (xs : List ℕ) → length xs ≤ 64 → All (λ x. x ≤ 2 ^ 50) xs → sum xs ≤ 64 * 2 ^ 50
-sum-le xs few small = let a = sum_by-le (λ x. x) (2 ^ 50) xs small in let b = mul-le-mul_right (2 ^ 50) few in omega arith
+pub sum-le : (xs : List ℕ) → length xs ≤ 64 → All (λ x. x ≤ 2 ^ 52) xs → sum xs ≤ 64 * 2 ^ 52
+sum-le xs few small = let a = sum_by-le (λ x. x) (2 ^ 52) xs small in let b = mul-le-mul_right (2 ^ 52) few in omega arith

@@ -13,6 +13,7 @@ pub mod NextLines
 pub mod Owners
 pub mod Pieces
 pub mod PlanLaw
+pub mod Proposed
 pub mod Ranks
 pub mod Spelled
 pub mod Sums

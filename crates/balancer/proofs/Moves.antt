@@ -74,7 +74,7 @@ weighed-moved s carried after owners p w r e f =
       carried_are = f ∙ carried-moved s carried p w r;
       owners = All-set (λ o. o < s.cores) s.owners p.bucket p.to r.allowed.core w.owners;
       cores = w.cores;
-      buckets = subst (λ (n : ℕ). n ≤ 512) (sym long) w.buckets;
+      buckets = subst (λ (n : ℕ). n ≤ 2048) (sym long) w.buckets;
       loads = subst (λ (n : ℕ). AreLoads s.cores n s.loads) (sym long) w.loads;
     }
 

@@ -45,24 +45,24 @@ at_more number r bs false e = absurd (cc)
 lines_spell : (cores number : ℕ) (ls : List (List ℕ)) (bs : List Bucket) → buckets_from cores number ls ≡ Ok bs → AreBucketLines cores ls (owners_of bs) (loads_of bs)
 lines_spell cores number [] bs e = subst (λ (cs : List Bucket). AreBucketLines cores [] (owners_of cs) (loads_of cs)) (sym (at_end number bs (number == 4) e).1) tt
 lines_spell cores number (l ∷ ls) bs e =
-    let m = at_more number (in_front (ok_or (bucket_line cores l) number) (buckets_from cores (number + 1) ls)) bs (ltb number 516) e in
+    let m = at_more number (in_front (ok_or (bucket_line cores l) number) (buckets_from cores (number + 1) ls)) bs (ltb number 2052) e in
     let f = front_is (ok_or (bucket_line cores l) number) (buckets_from cores (number + 1) ls) bs m.1 in
     subst (λ (cs : List Bucket). AreBucketLines cores (l ∷ ls) (owners_of cs) (loads_of cs)) (sym f.4) (some_is (bucket_line cores l) number f.0 f.2, lines_spell cores (number + 1) ls f.1 f.3)
 
-lines_few : (cores number : ℕ) (ls : List (List ℕ)) (bs : List Bucket) → buckets_from cores number ls ≡ Ok bs → number ≤ 516 → length ls + number ≤ 516
+lines_few : (cores number : ℕ) (ls : List (List ℕ)) (bs : List Bucket) → buckets_from cores number ls ≡ Ok bs → number ≤ 2052 → length ls + number ≤ 2052
 lines_few cores number [] bs e h = omega arith
 lines_few cores number (l ∷ ls) bs e h =
-    let m = at_more number (in_front (ok_or (bucket_line cores l) number) (buckets_from cores (number + 1) ls)) bs (ltb number 516) e in
+    let m = at_more number (in_front (ok_or (bucket_line cores l) number) (buckets_from cores (number + 1) ls)) bs (ltb number 2052) e in
     let f = front_is (ok_or (bucket_line cores l) number) (buckets_from cores (number + 1) ls) bs m.1 in
-    ⊎_elim (λ (g : number < 516). let r = lines_few cores (number + 1) ls f.1 f.3 (omega arith) in omega arith)
-    (λ (g : 516 ≤ number). let x : false ≡ true = sym (le-ltb number 516 g) ∙ m.0 in absurd (cc)) (cases_lt number 516)
+    ⊎_elim (λ (g : number < 2052). let r = lines_few cores (number + 1) ls f.1 f.3 (omega arith) in omega arith)
+    (λ (g : 2052 ≤ number). let x : false ≡ true = sym (le-ltb number 2052 g) ∙ m.0 in absurd (cc)) (cases_lt number 2052)
 
 lines_some : (cores : ℕ) (ls : List (List ℕ)) (bs : List Bucket) → buckets_from cores 4 ls ≡ Ok bs → 1 ≤ length ls
 lines_some cores [] bs e = absurd (cc)
 lines_some cores (l ∷ ls) bs e = omega arith
 
 -- and back
-spelled : (cores number : ℕ) (ls : List (List ℕ)) (os ws : List ℕ) → AreBucketLines cores ls os ws → length ls + number ≤ 516 → 4 ≤ number → (number ≡ 4 → 1 ≤ length ls) → (bs : List Bucket) × (buckets_from cores number ls ≡ Ok bs) × (owners_of bs ≡ os) × (loads_of bs ≡ ws)
+spelled : (cores number : ℕ) (ls : List (List ℕ)) (os ws : List ℕ) → AreBucketLines cores ls os ws → length ls + number ≤ 2052 → 4 ≤ number → (number ≡ 4 → 1 ≤ length ls) → (bs : List Bucket) × (buckets_from cores number ls ≡ Ok bs) × (owners_of bs ≡ os) × (loads_of bs ≡ ws)
 spelled cores number [] [] [] a few from some = ([], ap (λ (t : Bool). if t then Err number else Ok []) (ne_eqb number 4 (λ e. let h = some e in absurd (omega arith))), refl, refl)
 spelled cores number [] [] (w ∷ ws) a few from some = absurd a
 spelled cores number [] (o ∷ os) ws a few from some = absurd a
@@ -71,7 +71,7 @@ spelled cores number (l ∷ ls) (o ∷ os) [] a few from some = absurd a
 spelled cores number (l ∷ ls) (o ∷ os) (w ∷ ws) a few from some =
     let r = spelled cores (number + 1) ls os ws a.1 (omega arith) (omega arith) (λ e. absurd (omega arith)) in (
       record { owner = o; load = w } ∷ r.0,
-      ap (λ (t : Bool). if t then in_front (ok_or (bucket_line cores l) number) (buckets_from cores (number + 1) ls) else Err number) (less_is number 516 (omega arith))
+      ap (λ (t : Bool). if t then in_front (ok_or (bucket_line cores l) number) (buckets_from cores (number + 1) ls) else Err number) (less_is number 2052 (omega arith))
           ∙ (ap (λ (x : Option Bucket). in_front (ok_or x number) (buckets_from cores (number + 1) ls)) a.0 ∙ ap (λ (y : Result (List Bucket) ℕ). in_front (Ok (record { owner = o; load = w })) y) r.1),
       ap (λ (z : List ℕ). o ∷ z) r.2,
       ap (λ (z : List ℕ). w ∷ z) r.3,

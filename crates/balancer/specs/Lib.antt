@@ -14,5 +14,6 @@ pub mod PlanLines
 pub mod PlanRead
 pub mod PlanReading
 pub mod PlanText
+pub mod Policies
 pub mod Ranking
 pub mod Standing

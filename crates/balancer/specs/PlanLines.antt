@@ -10,7 +10,7 @@ AreBucketLines cores [] [] [] = Unit {0}
 AreBucketLines cores (l ∷ ls) (o ∷ os) (w ∷ ws) = (bucket_line cores l ≡ Some (record { owner = o; load = w })) × AreBucketLines cores ls os ws
 AreBucketLines cores _ _ _ = ⊥
 
--- the text has a line of cores, one of the limit, one of bases, and 1 to 512 lines of buckets, which spell the instance
+-- the text has a line of cores, one of the limit, one of bases, and 1 to 2,048 lines of buckets, which spell the instance
 pub record HasLines (text : List ℕ) (p : Instance) : Type 0 where
   pub first : List ℕ
   pub second : List ℕ

@@ -1,9 +1,12 @@
 ghost use Rattle.std.specs.Prelude.{◌≡◌, ◌≤◌, [], length, IfOk};
+ghost use Rattle.balancer.specs.BalancerView.{stated_by};
 ghost use Rattle.balancer.specs.Greedy.{opening, greedy_round, Lowers};
 ghost use Rattle.balancer.specs.Moves.{AreMoves};
 ghost use Rattle.balancer.specs.Standing.{AreLoads};
 ghost use Rattle.balancer.specs.Afterwards.{StaysMade};
+ghost use Rattle.balancer.specs.Policies.{proposed_greedily};
 
+use crate::Policy;
 use crate::limits::MOST_PROPOSALS;
 use crate::ranked::Ranked;
 use crate::ranking::rank;
@@ -130,5 +133,15 @@ impl Balancer {
     {
         self.make_round(loads, table, limit);
         self.proposals()
+    }
+}
+
+impl Policy for Balancer {
+    ghost stated = { stated_by };
+
+    ghost proposals = { proposed_greedily };
+
+    fn propose(&mut self, loads: &Loads, table: &Table, limit: u8) -> &[Proposal] {
+        Balancer::propose(self, loads, table, limit)
     }
 }

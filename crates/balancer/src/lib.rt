@@ -6,6 +6,9 @@
 //! [`rounds_lower`] is the law behind it: each proposal lowers the imbalance by twice the square
 //! of the number of cores times its gain.
 //!
+//! A [`Policy`] is what makes the proposals of a round; a [`Balancer`] is one, and [`PolicyName`]
+//! names those that the options of a run can ask for.
+//!
 //! [`plan_text`] reads one instance and writes its round. It is proved against the instance that
 //! the lines of the whole text spell, or the first bad line among them (`specs/PlanForm.antt`);
 //! [`plans_have_lines`] says the same line by line.
@@ -25,6 +28,8 @@ mod plan;
 mod plan_fault;
 mod plan_line;
 mod plan_reader;
+mod policy;
+mod policy_name;
 mod ranked;
 mod ranking;
 mod round;
@@ -41,3 +46,5 @@ pub use limit_laws::{limits_are_stated, plan_texts_are_stated};
 pub use limits::{MOST_LOAD, MOST_PROPOSALS};
 pub use plan::plan_text;
 pub use plan_fault::PlanFault;
+pub use policy::Policy;
+pub use policy_name::PolicyName;

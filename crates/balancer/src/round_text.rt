@@ -57,7 +57,7 @@ fn put_numbers(numbers: &[u64], text: &mut Text) -> Result<(), NoMemory>
 /// Appends what the cores carry, and how uneven that is.
 pub fn put_loads(carried: &[u64], text: &mut Text) -> Result<(), NoMemory>
     requires few { length carried.now ≤ 64 }
-    requires small { All (λ l. l ≤ 2 ^ 50) carried.now }
+    requires small { All (λ l. l ≤ 2 ^ 52) carried.now }
     ensures { OnOk result (text.new ≡ text.old ++ (loads_line carried.now ++ imbalance_line carried.now)) }
 {
     text.push_bytes(b"loads")?;

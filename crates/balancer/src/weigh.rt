@@ -11,7 +11,7 @@ pub fn weigh(carried: &mut [u64], loads: &Loads, owners: &[u8])
     requires owners { All (λ owner. owner < length carried.old) owners.now }
     requires buckets { length owners.now ≤ MOST_BUCKETS }
     ensures value { carried.new ≡ core_loads (length carried.old) loads.now owners.now }
-    ensures small { All (λ load. load ≤ 2 ^ 50) carried.new }
+    ensures small { All (λ load. load ≤ 2 ^ 52) carried.new }
 {
     carried.copy_from_slice(loads.base());
     for (bucket, owner) in owners.iter().enumerate() {
@@ -30,10 +30,10 @@ pub fn total(carried: &[u64]) -> u64
 // How far a core's load is from an even share, as many times as there are cores.
 fn deviation(cores: u64, load: u64, total: u64) -> u128
     requires cores { cores ≤ MOST_CORES }
-    requires load { load ≤ 2 ^ 50 }
-    requires total { total ≤ 64 * 2 ^ 50 }
+    requires load { load ≤ 2 ^ 52 }
+    requires total { total ≤ 64 * 2 ^ 52 }
     ensures value { result ≡ apart (cores * load) total }
-    ensures small { result ≤ 64 * 2 ^ 50 }
+    ensures small { result ≤ 64 * 2 ^ 52 }
 {
     u128::from((cores * load).abs_diff(total))
 }
@@ -41,7 +41,7 @@ fn deviation(cores: u64, load: u64, total: u64) -> u128
 /// The imbalance of what the cores carry.
 pub fn imbalance(carried: &[u64]) -> u128
     requires few { length carried.now ≤ MOST_CORES }
-    requires small { All (λ l. l ≤ 2 ^ 50) carried.now }
+    requires small { All (λ l. l ≤ 2 ^ 52) carried.now }
     ensures { result ≡ imbalance carried.now }
 {
     let cores = carried.len() as u64;

@@ -1,3 +1,4 @@
 pub mod FirstKeys
+pub mod FlowHash
 pub mod Kept
 pub mod Table

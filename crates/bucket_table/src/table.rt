@@ -3,8 +3,8 @@ ghost use Rattle.indexmap.specs.IndexMap.{insert_entry};
 ghost use Rattle.packet_fields.specs.declared.packet.PacketInfo.{PacketInfo};
 ghost use Rattle.bucket_table.specs.Kept.{AllWithin, state_at};
 
-use crate::Custody;
 use crate::custody::Begun;
+use crate::{Custody, FlowHashKey};
 use flow_work::{FlowWork, MOST_PACKETS};
 use indexmap::IndexMap;
 use packet_fields::{FlowKey, PacketInfo};
@@ -16,7 +16,7 @@ use std::marker::Model;
 #[derive(Drop)]
 pub struct BucketTable<W: FlowWork> {
     bucket: u16,
-    flows: IndexMap<FlowKey, W::State>,
+    flows: Box<IndexMap<FlowKey, W::State, FlowHashKey>>,
     done: u32,
     bytes: u64,
     short: bool,
@@ -31,21 +31,21 @@ impl<W: FlowWork> Model for BucketTable<W> {
 
     ghost view = { λ t. record {
       bucket = t.bucket;
-      flows = t.flows.entries;
+      flows = t.flows.value.entries;
       done = t.done;
       bytes = t.bytes;
       short = t.short;
       custody = t.custody;
     } };
 
-    ghost invariant = { λ t. IsKept W.stands_for t.flows.entries t.done t.bytes };
+    ghost invariant = { λ t. IsKept W.stands_for t.flows.value.entries t.done t.bytes };
 }
 
 // Works a packet into its flow, by one look-up, unless memory was refused before. Answers whether
 // memory is short now, and then the flows stay as they were.
 fn work_flow<W: FlowWork>(
     short: bool,
-    flows: &mut IndexMap<FlowKey, W::State>,
+    flows: &mut IndexMap<FlowKey, W::State, FlowHashKey>,
     work: &W,
     packet: &PacketInfo,
 ) -> bool
@@ -80,14 +80,23 @@ impl<W: FlowWork> BucketTable<W> {
     ghost use Rattle.bucket_table.specs.FirstKeys.{same_key};
     ghost use Rattle.bucket_table.specs.Table.{StandsFor, empty_table, custody_until};
 
-    /// The table of a bucket without packets. It takes memory as flows come.
-    pub fn new(alloc: Global, bucket: u16) -> Result<BucketTable<W>, NoMemory>
+    /// The table of a bucket without packets. It takes memory for the key by which it hashes, and
+    /// more as flows come. Contracts see nothing of the key: flows stand in the order of their first
+    /// packets under any.
+    pub fn new(
+        alloc: Global,
+        bucket: u16,
+        hashing: &FlowHashKey,
+    ) -> Result<BucketTable<W>, NoMemory>
         ensures empty { IfOk result (λ table. table ≡ empty_table bucket) }
         ensures stands { IfOk result (StandsFor W.opening W.after []) }
     {
+        let Ok(flows) = Box::new(alloc, IndexMap::with_hasher(alloc, *hashing)) else {
+            return Err(NoMemory);
+        };
         Ok(BucketTable {
             bucket,
-            flows: IndexMap::new(alloc),
+            flows,
             done: 0,
             bytes: 0,
             short: false,
@@ -123,7 +132,7 @@ impl<W: FlowWork> BucketTable<W> {
             → StandsFor W.opening W.after (packets ++ packet.now ∷ []) self.new }
     {
         let length = packet.original;
-        self.short = work_flow(self.short, &mut self.flows, work, packet);
+        self.short = work_flow(self.short, &mut *self.flows, work, packet);
         self.done += 1;
         self.bytes += u64::from(length);
     }

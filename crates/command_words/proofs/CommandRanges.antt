@@ -16,6 +16,7 @@ use Rattle.indirection.specs.declared.limits.TheConstants.{MOST_BUCKETS, MOST_CO
 use Rattle.toeplitz.specs.declared.key.Key.{Key}
 use Rattle.toeplitz.specs.declared.key.TheConstants.{DEFAULT_KEY, KEY_BYTES}
 use Rattle.std.specs.Option.{ok_or}
+use Rattle.balancer.specs.declared.policy_name.PolicyName.TheVariants.{Greedy}
 use Rattle.command_words.specs.declared.command.Command.{Command}
 use Rattle.command_words.specs.declared.limits.TheConstants.{MOST_COUNT, MOST_NUMBER}
 use Rattle.command_words.specs.declared.mode.Mode.{Mode}
@@ -87,6 +88,7 @@ options_fit g o h =
       moves = f.0;
       round = i.0;
       limit = j.0;
+      policy = Greedy;
       pool = k.0;
       packets = l.0;
     } in

@@ -10,6 +10,7 @@ use Rattle.flow_work.specs.declared.work_name.WorkName.{WorkName}
 use Rattle.flow_work.specs.declared.work_name.WorkName.TheVariants as work
 use Rattle.indirection.specs.Tables.{owners_in_turn}
 use Rattle.indirection.specs.Views.{TableView}
+use Rattle.balancer.specs.declared.policy_name.PolicyName.TheVariants.{Greedy}
 use Rattle.indirection.specs.declared.limits.TheConstants.{MOST_CORES}
 use Rattle.indirection.specs.declared.move_order.MoveOrder.{MoveOrder}
 use Rattle.toeplitz.specs.declared.key.Key.{Key}
@@ -142,6 +143,7 @@ read_options g =
       moves = moves;
       round = round;
       limit = limit;
+      policy = Greedy;
       pool = pool;
       packets = packets;
     })))))))))))

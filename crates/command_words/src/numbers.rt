@@ -47,14 +47,14 @@ pub fn number_between(low: u64, high: u64, text: &str) -> Option<u64>
     }
 }
 
-/// The number of buckets that the text spells, where it is a power of two up to 512.
+/// The number of buckets that the text spells, where it is a power of two up to 2,048.
 pub fn bucket_count(text: &str) -> Option<u16>
     ensures value { result ≡ bucket_count_in text.now }
     ensures bounds { IfSome result (λ n. (1 ≤ n) × (n ≤ MOST_BUCKETS)) }
 {
     let number = number(text)?;
     match number {
-        1 | 2 | 4 | 8 | 16 | 32 | 64 | 128 | 256 | 512 => Some(number as u16),
+        1 | 2 | 4 | 8 | 16 | 32 | 64 | 128 | 256 | 512 | 1_024 | 2_048 => Some(number as u16),
         _ => None,
     }
 }

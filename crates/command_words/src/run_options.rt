@@ -10,6 +10,7 @@ use crate::orders::orders_in;
 use crate::owners::table_in;
 use crate::work_text::work_named;
 use crate::{OptionName, WordFault};
+use balancer::PolicyName;
 use clap::ArgMatches;
 use dispatch_loop::{
     DEFAULT_BUCKETS, DEFAULT_CORES, DEFAULT_LIMIT, DEFAULT_PACKETS, DEFAULT_POOL, DEFAULT_ROUND,
@@ -174,6 +175,7 @@ pub fn run_options(alloc: Global, matches: &ArgMatches<'_>) -> Result<Options, W
         moves,
         round,
         limit,
+        policy: PolicyName::Greedy,
         pool,
         packets,
     })

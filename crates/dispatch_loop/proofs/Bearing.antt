@@ -5,13 +5,14 @@ use Rattle.std.proofs.lemmas.List.{length-map, length-set}
 use Rattle.packet_fields.specs.declared.packet.PacketInfo.{PacketInfo}
 use Rattle.toeplitz.specs.declared.key.Key.{Key}
 use Rattle.pcap_reader.specs.Reading.{Reading}
-use Rattle.indirection.specs.Story.{Step}
+use Rattle.indirection.specs.Story.{Step, parcels_of}
 use Rattle.core_queue.specs.declared.eye.LaneEye.{LaneEye}
 use Rattle.core_queue.specs.declared.item.Seen.{Seen}
 use Rattle.core_queue.specs.Cells.{plain, AreCarried}
 use Rattle.handover_words.specs.declared.eye.ShelfEye.{ShelfEye}
 use Rattle.load_meter.specs.declared.eye.LoadEye.{LoadEye}
 use Rattle.load_meter.specs.LoadEye.{known_at}
+use Rattle.dispatch_loop.specs.Costs.{HaveCosts}
 use Rattle.dispatch_loop.specs.Face.{Face}
 use Rattle.dispatch_loop.specs.Past.{Past}
 use Rattle.dispatch_loop.specs.Tied.{Tied, IsLaneOf, IsLawfulStill}
@@ -23,6 +24,7 @@ lane-of packets f steps c e e' s h = record {
   buckets = s.buckets ∙ h.buckets;
   sent = ap (λ (z : List Seen). map plain z) s.sent ∙ h.sent;
   carried = subst (λ (z : Key). AreCarried packets z e'.buckets e'.sent) (sym s.key) (subst (λ (z : ℕ). AreCarried packets e.key z e'.sent) (sym s.buckets) (subst (λ (z : List Seen). AreCarried packets e.key e.buckets z) (sym s.sent) h.carried));
+  costs = subst (λ (z : List Seen). HaveCosts f.terms.cost (parcels_of steps) z) (sym s.sent) h.costs;
 }
 
 still-lawful : (f : Face) (ps : List PacketInfo) (m m' : LoadEye) → ((c : ℕ) → known_at c m ≤ known_at c m') → IsLawfulStill f ps m → IsLawfulStill f ps m'

@@ -15,21 +15,25 @@ use Rattle.indirection.specs.Story.{Parcel, RoundHead, Step, Rounds, Tries, Send
 use Rattle.packet_fields.specs.declared.packet.PacketInfo.{PacketInfo}
 use Rattle.handover_core.specs.Dispatch.{dispatched}
 use Rattle.handover_core.proofs.Desk.{IsTold-send, IsTold-try}
-use Rattle.flow_work.specs.declared.work.TheConstants.{MOST_PACKETS}
+use Rattle.flow_work.specs.declared.work.TheConstants.{MOST_COST, MOST_PACKETS}
 use Rattle.dispatch_loop.specs.Terms.{cores_of, buckets_of}
 use Rattle.dispatch_loop.specs.Face.{Face}
 use Rattle.dispatch_loop.specs.Desk.{decided_owners, decided_starts}
 use Rattle.dispatch_loop.specs.Past.{parcel_of}
-use Rattle.dispatch_loop.specs.Does.{with_round, without_round, noted, decided, with_packet, bucket_for, owner_for, one_more, IsDecided}
+use Rattle.dispatch_loop.specs.Does.{with_round, without_round, noted, decided, with_packet, bucket_for, owner_for, more_at, IsDecided}
 use Rattle.dispatch_loop.specs.Tied.{IsDealt}
 use Rattle.dispatch_loop.proofs.StoryMore.{sent_from-push, dispatched-push}
 
 -- a list with one entry more, or another
 
-pub more-get : (xs : List ℕ) (k j : ℕ) → k < length xs → slice_index (one_more k xs) j ≡ slice_index xs j + (if k == j then 1 else 0)
-more-get xs k j h = by_test k j (λ t. slice_index (one_more k xs) j ≡ slice_index xs j + (if t then 1 else 0))
-    (λ e. subst (λ (i : ℕ). get_or (set xs k (get_or xs k 0 + 1)) i 0 ≡ get_or xs i 0 + 1) e (get_or-set_same xs k (get_or xs k 0 + 1) 0 h))
-    (λ ne. get_or-set_other xs k j (get_or xs k 0 + 1) 0 (λ e. ne (sym e)) ∙ omega arith)
+pub more-get : (xs : List ℕ) (k n j : ℕ) → k < length xs → slice_index (more_at k n xs) j ≡ slice_index xs j + (if k == j then n else 0)
+more-get xs k n j h = by_test k j (λ t. slice_index (more_at k n xs) j ≡ slice_index xs j + (if t then n else 0))
+    (λ e. subst (λ (i : ℕ). get_or (set xs k (get_or xs k 0 + n)) i 0 ≡ get_or xs i 0 + n) e (get_or-set_same xs k (get_or xs k 0 + n) 0 h))
+    (λ ne. get_or-set_other xs k j (get_or xs k 0 + n) 0 (λ e. ne (sym e)) ∙ omega arith)
+
+pub if-most : (t : Bool) (n m : ℕ) → n ≤ m → (if t then n else 0) ≤ m
+if-most true n m h = h
+if-most false n m h = omega arith
 
 pub set-get : (xs : List ℕ) (k v j : ℕ) → k < length xs → slice_index (slice_set xs k v) j ≡ (if k == j then v else slice_index xs j)
 set-get xs k v j h = by_test k j (λ t. slice_index (slice_set xs k v) j ≡ (if t then v else slice_index xs j))
@@ -173,9 +177,9 @@ dealt-decided f ss a o d h to is = record {
 
 -- a packet
 
-pub dealt-send : (f : Face) (ss : List Step) (info : PacketInfo) → IsDealt f ss → bucket_for f info < buckets_of f.terms → owner_for f info < cores_of f.terms → f.sent < MOST_PACKETS
+pub dealt-send : (f : Face) (ss : List Step) (info : PacketInfo) → IsDealt f ss → bucket_for f info < buckets_of f.terms → owner_for f info < cores_of f.terms → f.sent < MOST_PACKETS → f.terms.cost info ≤ MOST_COST
     → IsDealt (with_packet f info) (ss ++ Sends (parcel_of f.terms info) ∷ [])
-dealt-send f ss info d h inside few = record {
+dealt-send f ss info d h inside few cheap = record {
   owners_wide = d.owners_wide;
   starts_wide = d.starts_wide;
   counts_wide = length-set f.counts q _ ∙ d.counts_wide;
@@ -184,12 +188,12 @@ dealt-send f ss info d h inside few = record {
   sent = let e = ap (λ (z : List Parcel). length z) (parcels_of-append ss (Sends p ∷ [])) ∙ length-append (parcels_of ss) (p ∷ []) in let s = d.sent in omega arith;
   owners = λ b l. d.owners b l ∙ ap (λ (z : List Try). owner_after start z b) (sym (tries_of-send ss p));
   starts = λ b l. d.starts b l ∙ ap (λ (z : List Try). tail_from b 0 z) (sym (tries_of-send ss p));
-  counts = λ b l. more-get f.counts q b (let w = d.counts_wide in omega arith)
+  counts = λ b l. more-get f.counts q 1 b (let w = d.counts_wide in omega arith)
       ∙ (let e = d.counts b l in let s = ap (λ (z : List Parcel). count_in b z) (parcels_of-append ss (Sends p ∷ [])) ∙ count_in-append b (parcels_of ss) (p ∷ []) in omega arith);
-  cores = λ c l. more-get f.sent_to (owner_for f info) c (let w = d.cores_wide in omega arith)
-      ∙ (ap (λ (n : ℕ). slice_index f.sent_to c + (if n == c then 1 else 0)) (d.owners q h)
+  cores = λ c l. more-get f.sent_to (owner_for f info) p.cost c (let w = d.cores_wide in omega arith)
+      ∙ (ap (λ (n : ℕ). slice_index f.sent_to c + (if n == c then p.cost else 0)) (d.owners q h)
       ∙ (let e = d.cores c l in let s = sent_from-push c start [] ss (Sends p) in omega arith));
-  few = λ c. let e = more-get f.sent_to (owner_for f info) c (let w = d.cores_wide in omega arith) in let l = d.few c in let o = if-most (owner_for f info == c) in omega arith;
+  few = λ c. let e = more-get f.sent_to (owner_for f info) p.cost c (let w = d.cores_wide in omega arith) in let l = d.few c in let o = if-most (owner_for f info == c) p.cost MOST_COST cheap in omega arith;
   told = rw (dispatched-push start ss (Sends p), tries_of-send ss p, parcels_of-append ss (Sends p ∷ []))
       (IsTold-send start (tries_of ss) (parcels_of ss) (dispatched start ss) p d.told (let s = d.sent in let c = count_by-le-length (λ (z : Parcel). z.bucket == q) (parcels_of ss) in omega arith));
 } where
@@ -201,7 +205,3 @@ dealt-send f ss info d h inside few = record {
 
   p : Parcel
   p = parcel_of f.terms info
-
-  if-most : (t : Bool) → (if t then 1 else 0) ≤ 1
-  if-most true = omega arith
-  if-most false = omega arith

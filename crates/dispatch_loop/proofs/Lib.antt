@@ -7,12 +7,12 @@ pub mod Dealt
 pub mod StorySteps
 pub mod LaneSteps
 pub mod Carrying
+pub mod CostsKept
 pub mod Dues
 pub mod Lawfuls
 pub mod Framed
 pub mod Ties
 pub mod Acted
-pub mod GreedyFew
 pub mod States
 pub mod Turned
 pub mod Starts

@@ -1,5 +1,5 @@
 -- Each rule keeps a dispatcher tied to its past and its ends.
-use Rattle.std.proofs.Common.{◌≡◌, ◌≢◌, ℕ, zero, suc, ◌+◌, ◌<◌, ◌≤◌, List, [], ◌∷◌, ◌++◌, length, map, drop, get_or, replicate, append_assoc, refl, sym, ap, ◌∙◌, subst, arith, Bool, true, false, if◌then◌else◌, ◌==◌, Option, None, Some, All, ⊎_elim, inl, inr, length-append}
+use Rattle.std.proofs.Common.{◌≡◌, ◌≢◌, ℕ, zero, suc, ◌+◌, ◌<◌, ◌≤◌, List, [], ◌∷◌, ◌++◌, length, map, drop, get_or, replicate, append_assoc, refl, sym, ap, ◌∙◌, subst, arith, Bool, true, false, if◌then◌else◌, ◌==◌, ◌*◌, Option, None, Some, All, ⊎_elim, inl, inr, length-append}
 use Rattle.std.specs.Prelude.{slice_index}
 use Rattle.std.proofs.lemmas.Bool.{cases_lt, cases_eq}
 use Rattle.std.proofs.lemmas.List.{append-nil, length-set, get_or-replicate, length-replicate}
@@ -16,7 +16,8 @@ use Rattle.indirection.specs.declared.entry.Entry.TheVariants.{Round, Order}
 use Rattle.indirection.specs.Rounds.{entries_with, round_with, opened_round}
 use Rattle.indirection.proofs.LastRounds.{entries_with-at}
 use Rattle.indirection.specs.Tries.{Ask, Proposed, Ordered, ask_bucket, ask_to}
-use Rattle.indirection.specs.Story.{count_in, owner_then, start_then, sent_then, Parcel, RoundHead, Step, Rounds, Tries, Sends}
+use Rattle.indirection.proofs.Steps.{parcels_of-append, parcels_of-round, parcels_of-try}
+use Rattle.indirection.specs.Story.{parcels_of, count_in, owner_then, start_then, sent_then, Parcel, RoundHead, Step, Rounds, Tries, Sends}
 use Rattle.indirection.specs.Due.{RoundDue, TryDue, PacketDue}
 use Rattle.balancer.specs.Moves.{AreMoves}
 use Rattle.handover_core.specs.declared.item.Kind.TheVariants.{Mark}
@@ -25,6 +26,7 @@ use Rattle.handover_core.specs.declared.post.Post.{Post}
 use Rattle.handover_core.specs.Legal.{Legal}
 use Rattle.handover_core.specs.Dispatch.{kind_at, dispatched, ends, stream}
 use Rattle.core_queue.specs.declared.eye.LaneEye.{LaneEye}
+use Rattle.core_queue.specs.declared.item.Seen.{Seen}
 use Rattle.core_queue.specs.declared.item.Seen.TheVariants.{Packet, Close}
 use Rattle.core_queue.specs.LaneEye.{sent_on}
 use Rattle.core_queue.specs.Cells.{plain, IsCarried}
@@ -33,7 +35,9 @@ use Rattle.load_meter.specs.declared.eye.LoadEye.{LoadEye}
 use Rattle.pcap_reader.specs.Capture.{Captured}
 use Rattle.pcap_reader.specs.Reading.{Reading}
 use Rattle.dispatch_loop.specs.declared.dispatcher_end.DispatcherEnd.{DispatcherEnd}
+use Rattle.flow_work.specs.declared.work.TheConstants.{MOST_COST}
 use Rattle.dispatch_loop.specs.Terms.{Terms, cores_of, buckets_of}
+use Rattle.dispatch_loop.specs.Costs.{HasCost, HaveCosts}
 use Rattle.dispatch_loop.specs.Face.{Face}
 use Rattle.dispatch_loop.specs.Asks.{rest_of, RiseFrom, due_now, owner_at, start_at, count_at}
 use Rattle.dispatch_loop.specs.Lanes.{changed_at}
@@ -45,8 +49,9 @@ use Rattle.dispatch_loop.specs.Tied.{Tied, IsDealt, AreLanesOf, IsRoundHere}
 use Rattle.dispatch_loop.proofs.Lists.{rest-drop, here, here-cons}
 use Rattle.dispatch_loop.proofs.StoryMore.{dispatched-push}
 use Rattle.dispatch_loop.proofs.StorySteps.{length-parcels, AtMost-more, AtMost-push, told-packet, told-round, told-order, told-outcome, within-outcome}
-use Rattle.dispatch_loop.proofs.Dealt.{more-get, dealt-round, dealt-refused, dealt-noted, dealt-decided, dealt-send}
-use Rattle.dispatch_loop.proofs.LaneSteps.{posted, lanes-same, lanes-push, can-send, ends-more, legal-end}
+use Rattle.dispatch_loop.proofs.Dealt.{more-get, if-most, dealt-round, dealt-refused, dealt-noted, dealt-decided, dealt-send}
+use Rattle.dispatch_loop.proofs.CostsKept.{behind-count, cost-last, costs-more, has-cost}
+use Rattle.dispatch_loop.proofs.LaneSteps.{costs_to, posted, lanes-same, lanes-push, can-send, ends-more, legal-end}
 use Rattle.dispatch_loop.proofs.Carrying.{at-place, carries, count-parcels, bucket-below}
 use Rattle.dispatch_loop.proofs.Dues.{IsProposed, IsOrdered, round_due, none_waits, packet_not_round}
 use Rattle.dispatch_loop.proofs.Lawfuls.{lawful-round, lawful-ordered, lawful-proposed, lawful-send, next-proposal}
@@ -88,7 +93,7 @@ module _ (packets : Option (List PacketInfo)) (p : Past) where
     within = AtMost-push (length p.packets) f.journal.entries (Round (opened_round f.sent (loads_of f readings) h.proposals)) t.within (let e = sent in omega arith);
     dealt = subst (λ (z : List Step). IsDealt f' z) (sym told) (dealt-round f (loads_of f readings) ss h t.dealt);
     sent = subst (λ (z : List Step). AreLanesOf packets f' z lanes) (sym told) (lanes-same packets f f' ss (ss ++ Rounds h ∷ []) lanes t.sent refl
-        (ap (λ (z : List Post). z ++ ends f.ends) (dispatched-push f.terms.start.owners ss (Rounds h) ∙ append-nil (dispatched f.terms.start.owners ss))));
+        (ap (λ (z : List Post). z ++ ends f.ends) (dispatched-push f.terms.start.owners ss (Rounds h) ∙ append-nil (dispatched f.terms.start.owners ss))) (parcels_of-round ss h));
     orders = record {
       tried = t.orders.tried;
       parts = t.orders.parts;
@@ -132,7 +137,7 @@ module _ (packets : Option (List PacketInfo)) (p : Past) where
     few = t.few;
     within = t.within;
     dealt = dealt-refused f (story f p.packets) t.dealt;
-    sent = lanes-same packets f (without_round f) (story f p.packets) (story f p.packets) lanes t.sent refl refl;
+    sent = lanes-same packets f (without_round f) (story f p.packets) (story f p.packets) lanes t.sent refl refl refl;
     orders = record { tried = t.orders.tried; parts = t.orders.parts; before = t.orders.before; ahead = t.orders.ahead; room = t.orders.room; proposals = inl refl; moves = λ k d h. absurd (omega arith) };
     loads = record { wide = length-replicate (buckets_of f.terms) 0; few = zero-get (buckets_of f.terms); since = omega arith };
     lawful = λ e. let q : true ≡ false = e in absurd (cc);
@@ -185,16 +190,16 @@ module _ (packets : Option (List PacketInfo)) (p : Past) where
   after-try : (f f' : Face) (ss : List Step) (a : Ask) (o : Outcome) (lanes lanes' : List LaneEye) → AreLanesOf packets f ss lanes → IsDealt f ss → ask_bucket a < buckets_of f.terms → IsDecided f a o → f'.terms ≡ f.terms → f'.ends ≡ f.ends → f.ends ≡ 0
       → LanesAfter f (ask_bucket a) o lanes lanes' → AreLanesOf packets f' (ss ++ Tries a o ∷ []) lanes'
   after-try f f' ss a Same lanes lanes' s d h is te ne zero_ends after = subst (λ (z : List LaneEye). AreLanesOf packets f' (ss ++ Tries a Same ∷ []) z) (sym after) (lanes-same packets f f' ss (ss ++ Tries a Same ∷ []) lanes s te
-      (ap (λ (k : Terms). dispatched k.start.owners (ss ++ Tries a Same ∷ []) ++ ends f'.ends) te ∙ (ap (λ (n : ℕ). dispatched f.terms.start.owners (ss ++ Tries a Same ∷ []) ++ ends n) ne ∙ (ap (λ (z : List Post). z ++ ends f.ends) (dispatched-push f.terms.start.owners ss (Tries a Same)) ∙ none-more (dispatched f.terms.start.owners ss) f.ends))))
+      (ap (λ (k : Terms). dispatched k.start.owners (ss ++ Tries a Same ∷ []) ++ ends f'.ends) te ∙ (ap (λ (n : ℕ). dispatched f.terms.start.owners (ss ++ Tries a Same ∷ []) ++ ends n) ne ∙ (ap (λ (z : List Post). z ++ ends f.ends) (dispatched-push f.terms.start.owners ss (Tries a Same)) ∙ none-more (dispatched f.terms.start.owners ss) f.ends))) (parcels_of-try ss a Same))
   after-try f f' ss a Placed lanes lanes' s d h is te ne zero_ends after = subst (λ (z : List LaneEye). AreLanesOf packets f' (ss ++ Tries a Placed ∷ []) z) (sym after) (lanes-same packets f f' ss (ss ++ Tries a Placed ∷ []) lanes s te
-      (ap (λ (k : Terms). dispatched k.start.owners (ss ++ Tries a Placed ∷ []) ++ ends f'.ends) te ∙ (ap (λ (n : ℕ). dispatched f.terms.start.owners (ss ++ Tries a Placed ∷ []) ++ ends n) ne ∙ (ap (λ (z : List Post). z ++ ends f.ends) (dispatched-push f.terms.start.owners ss (Tries a Placed)) ∙ none-more (dispatched f.terms.start.owners ss) f.ends))))
+      (ap (λ (k : Terms). dispatched k.start.owners (ss ++ Tries a Placed ∷ []) ++ ends f'.ends) te ∙ (ap (λ (n : ℕ). dispatched f.terms.start.owners (ss ++ Tries a Placed ∷ []) ++ ends n) ne ∙ (ap (λ (z : List Post). z ++ ends f.ends) (dispatched-push f.terms.start.owners ss (Tries a Placed)) ∙ none-more (dispatched f.terms.start.owners ss) f.ends))) (parcels_of-try ss a Placed))
   after-try f f' ss a (InPassage tail sent word) lanes lanes' s d h is te ne zero_ends after = subst (λ (z : List LaneEye). AreLanesOf packets f' (ss ++ Tries a (InPassage tail sent word) ∷ []) z) (sym after) (lanes-same packets f f' ss (ss ++ Tries a (InPassage tail sent word) ∷ []) lanes s te
-      (ap (λ (k : Terms). dispatched k.start.owners (ss ++ Tries a (InPassage tail sent word) ∷ []) ++ ends f'.ends) te ∙ (ap (λ (n : ℕ). dispatched f.terms.start.owners (ss ++ Tries a (InPassage tail sent word) ∷ []) ++ ends n) ne ∙ (ap (λ (z : List Post). z ++ ends f.ends) (dispatched-push f.terms.start.owners ss (Tries a (InPassage tail sent word))) ∙ none-more (dispatched f.terms.start.owners ss) f.ends))))
+      (ap (λ (k : Terms). dispatched k.start.owners (ss ++ Tries a (InPassage tail sent word) ∷ []) ++ ends f'.ends) te ∙ (ap (λ (n : ℕ). dispatched f.terms.start.owners (ss ++ Tries a (InPassage tail sent word) ∷ []) ++ ends n) ne ∙ (ap (λ (z : List Post). z ++ ends f.ends) (dispatched-push f.terms.start.owners ss (Tries a (InPassage tail sent word))) ∙ none-more (dispatched f.terms.start.owners ss) f.ends))) (parcels_of-try ss a (InPassage tail sent word)))
   after-try f f' ss a (Moved tail) lanes lanes' s d h is te ne zero_ends after = subst (λ (z : List LaneEye). AreLanesOf packets f' (ss ++ Tries a (Moved tail) ∷ []) z) (sym after)
       (lanes-push packets f f' ss (ss ++ Tries a (Moved tail) ∷ []) lanes (owner_at f (ask_bucket a)) (Packet (mark_of f (ask_bucket a))) s te
       (ap (λ (k : Terms). dispatched k.start.owners (ss ++ Tries a (Moved tail) ∷ []) ++ ends f'.ends) te ∙ (ap (λ (n : ℕ). dispatched f.terms.start.owners (ss ++ Tries a (Moved tail) ∷ []) ++ ends n) ne
       ∙ (ap (λ (z : List Post). z ++ ends f.ends) (dispatched-push f.terms.start.owners ss (Tries a (Moved tail)) ∙ ap (λ (x : Post). dispatched f.terms.start.owners ss ++ x ∷ []) (ap (λ (c : ℕ). mark_post c (ask_bucket a) tail) (sym (d.owners (ask_bucket a) h)) ∙ ap (λ (n : ℕ). mark_post (owner_at f (ask_bucket a)) (ask_bucket a) n) is.3))
-      ∙ one-more (dispatched f.terms.start.owners ss) f.ends _ zero_ends))) (h, tt))
+      ∙ one-more (dispatched f.terms.start.owners ss) f.ends _ zero_ends))) (h, tt) (λ items w. costs_to f f' ss (ss ++ Tries a (Moved tail) ∷ []) items te (parcels_of-try ss a (Moved tail)) w) tt)
 
   pub tied-ordered : (f : Face) (lanes lanes' : List LaneEye) (v v' : ShelfEye) (m : LoadEye) (r : Reading) (l : Option (List ℕ)) (a : Ask) (o : Outcome) → Tied packets p f lanes v m r l → (w : IsOrdered f a) → due_now f ≡ TryDue (Ordered w.order) → IsDecided f (Ordered w.order) o → w.order.bucket < buckets_of f.terms → w.order.to < cores_of f.terms
       → LanesAfter f w.order.bucket o lanes lanes' → v'.buckets ≡ v.buckets → Tied packets p (noted (decided f w.order.bucket w.order.to o) (Ordered w.order) o) lanes' v' m r l
@@ -327,6 +332,19 @@ module _ (packets : Option (List PacketInfo)) (p : Past) where
         (t.dealt.counts (bucket_for f info) h ∙ (ap (λ (z : List Parcel). count_in (bucket_for f info) z) (parcels_of-told f.journal.entries 0 (parcels f.terms p.packets)) ∙ count-parcels f.terms (bucket_for f info) p.packets))),
   )
 
+  -- what lanes carry costs as before, and the packet costs what its parcel does
+  costs_by : (f : Face) (ss : List Step) (info : PacketInfo) (items : List Seen) → HaveCosts f.terms.cost (parcels_of ss) items → HaveCosts f.terms.cost (parcels_of (ss ++ Sends (parcel_of f.terms info) ∷ [])) items
+  costs_by f ss info items w = subst (λ (z : List Parcel). HaveCosts f.terms.cost z items) (sym (parcels_of-append ss (Sends (parcel_of f.terms info) ∷ []))) (costs-more f.terms.cost (parcels_of ss) (parcel_of f.terms info ∷ []) items w)
+
+  packet-cost : (f : Face) (ss : List Step) (info : PacketInfo) → IsDealt f ss → bucket_for f info < buckets_of f.terms → HasCost f.terms.cost (parcels_of (ss ++ Sends (parcel_of f.terms info) ∷ [])) (Packet (cell_of f info))
+  packet-cost f ss info d h =
+      let x = parcel_of f.terms info in let b = bucket_for f info in
+      let place : count_at f b ≡ count_in b (parcels_of ss) = d.counts b h in
+      subst (λ (z : List Parcel). HasCost f.terms.cost z (Packet (cell_of f info))) (sym (parcels_of-append ss (Sends x ∷ [])))
+      (has-cost f.terms.cost (parcels_of ss ++ x ∷ []) (kind_at (start_at f b) (count_at f b)) (cell_of f info)
+      (behind-count b (count_at f b) (parcels_of ss) x refl place)
+      (sym (cost-last x (count_at f b) (parcels_of ss) place)))
+
   pub held-reading : (f : Face) (r : Reading) (l : Option (List ℕ)) (info : PacketInfo) → IsFed f.terms.packets p f.held f.end r l → f.held ≡ Some info → f.end ≡ None → IsReading f.terms.packets p (Some info) r l
   held-reading f r l info fed held goes = subst (λ (h : Option PacketInfo). IsReading f.terms.packets p h r l) held (subst (λ (e : Option DispatcherEnd). IsFed f.terms.packets p f.held e r l) goes fed)
 
@@ -349,9 +367,10 @@ module _ (packets : Option (List PacketInfo)) (p : Past) where
     start = t.start;
     few = let n = length-append p.packets (info ∷ []) in let w = few in omega arith;
     within = AtMost-more (length p.packets) (length (p.packets ++ info ∷ [])) f.journal.entries (let n = length-append p.packets (info ∷ []) in omega arith) t.within;
-    dealt = subst (λ (z : List Step). IsDealt f' z) (sym told) (dealt-send f ss info t.dealt h inside (let e = sent in let w = few in let s = t.sound.packets in omega arith));
+    dealt = subst (λ (z : List Step). IsDealt f' z) (sym told) (dealt-send f ss info t.dealt h inside (let e = sent in let w = few in let s = t.sound.packets in omega arith) (t.sound.cost info));
     sent = subst (λ (z : List Step). AreLanesOf packets f' z (changed_at (owner_for f info) (sent_on (Packet (cell_of f info))) lanes)) (sym told)
-        (lanes-push packets f f' ss (ss ++ Sends (parcel_of f.terms info) ∷ []) lanes (owner_for f info) (Packet (cell_of f info)) t.sent refl (packet-posted f ss info t.dealt h (open-ends f lanes v m r l t goes)) (packet-carried f lanes v m r l info t reading h));
+        (lanes-push packets f f' ss (ss ++ Sends (parcel_of f.terms info) ∷ []) lanes (owner_for f info) (Packet (cell_of f info)) t.sent refl (packet-posted f ss info t.dealt h (open-ends f lanes v m r l t goes)) (packet-carried f lanes v m r l info t reading h)
+        (λ items w. costs_by f ss info items w) (packet-cost f ss info t.dealt h));
     orders = record {
       tried = t.orders.tried;
       parts = t.orders.parts;
@@ -363,7 +382,7 @@ module _ (packets : Option (List PacketInfo)) (p : Past) where
     };
     loads = record {
       wide = length-set f.loads (bucket_for f info) _ ∙ t.loads.wide;
-      few = λ b. let e = more-get f.loads (bucket_for f info) b (let w = t.loads.wide in omega arith) in let w = t.loads.few b in let o = if-most (bucket_for f info == b) in omega arith;
+      few = λ b. let e = more-get f.loads (bucket_for f info) (f.terms.cost info) b (let w = t.loads.wide in omega arith) in let w = t.loads.few b in let o = if-most (bucket_for f info == b) (f.terms.cost info) MOST_COST (t.sound.cost info) in omega arith;
       since = let w = t.loads.since in omega arith;
     };
     lawful = λ e. lawful-send f p.packets m info d e t.sound.some_round h t.loads.wide t.orders t.dealt t.within (t.lawful e);
@@ -405,10 +424,6 @@ module _ (packets : Option (List PacketInfo)) (p : Past) where
     nothing : (f.proposals ≡ []) × (here f.sent f.orders ≡ [])
     nothing = none_waits f d
 
-    if-most : (t : Bool) → (if t then 1 else 0) ≤ 1
-    if-most true = omega arith
-    if-most false = omega arith
-
   -- what may be sent
 
   legal-posted : (f : Face) (ss : List Step) (k : ℕ) → IsDealt f ss → f.ends ≡ 0 → Legal (stream k (posted f ss))
@@ -420,7 +435,7 @@ module _ (packets : Option (List PacketInfo)) (p : Past) where
       can-send packets f (story f p.packets) lanes (owner_for f info) (Packet (cell_of f info)) t.sent
       (subst (λ (z : List Post). Legal (stream (owner_for f info) z)) (packet-posted f (story f p.packets) info t.dealt h none)
       (legal-posted (with_packet f info) (story f p.packets ++ Sends (parcel_of f.terms info) ∷ []) (owner_for f info)
-      (dealt-send f (story f p.packets) info t.dealt h inside (let e = sent-is f p.packets t.dealt in let w = sent-few f lanes v m r l info t reading in let s = t.sound.packets in omega arith)) none))
+      (dealt-send f (story f p.packets) info t.dealt h inside (let e = sent-is f p.packets t.dealt in let w = sent-few f lanes v m r l info t reading in let s = t.sound.packets in omega arith) (t.sound.cost info)) none))
       (packet-carried f lanes v m r l info t reading h)
 
   pub can-mark : (f : Face) (lanes : List LaneEye) (v : ShelfEye) (m : LoadEye) (r : Reading) (l : Option (List ℕ)) (a : Ask) → Tied packets p f lanes v m r l → due_now f ≡ TryDue a → ask_bucket a < buckets_of f.terms → ask_to a < cores_of f.terms → IsDecided f a (Moved (count_at f (ask_bucket a)))
@@ -438,7 +453,7 @@ module _ (packets : Option (List PacketInfo)) (p : Past) where
 
   -- the lanes after an End
   pub lanes-end : (f : Face) (lanes : List LaneEye) (ss : List Step) → AreLanesOf packets f ss lanes → AreLanesOf packets (framed f f.held f.spare f.end (f.ends + 1)) ss (changed_at f.ends (sent_on Close) lanes)
-  lanes-end f lanes ss a = lanes-push packets f (framed f f.held f.spare f.end (f.ends + 1)) ss ss lanes f.ends Close a refl (ends-more (dispatched f.terms.start.owners ss) f.ends) tt
+  lanes-end f lanes ss a = lanes-push packets f (framed f f.held f.spare f.end (f.ends + 1)) ss ss lanes f.ends Close a refl (ends-more (dispatched f.terms.start.owners ss) f.ends) tt (λ items w. w) tt
 
   pub lanes-framed : (f : Face) (h : Option PacketInfo) (b : Bool) (e : Option DispatcherEnd) (lanes : List LaneEye) (ss : List Step) → AreLanesOf packets f ss lanes → AreLanesOf packets (framed f h b e f.ends) ss lanes
-  lanes-framed f h b e lanes ss a = lanes-same packets f (framed f h b e f.ends) ss ss lanes a refl refl
+  lanes-framed f h b e lanes ss a = lanes-same packets f (framed f h b e f.ends) ss ss lanes a refl refl refl

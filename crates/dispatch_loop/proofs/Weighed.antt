@@ -1,5 +1,5 @@
 -- Readings one after the other.
-use Rattle.std.proofs.Common.{◌≡◌, ℕ, zero, suc, ◌+◌, ◌-◌, ◌<◌, ◌≤◌, All, List, [], ◌∷◌, ◌++◌, length, take, drop, get_or, refl, sym, ap, ◌∙◌, subst, arith, append_assoc, Option, Some, None, length-append, replicate}
+use Rattle.std.proofs.Common.{◌≡◌, ℕ, zero, suc, ◌+◌, ◌-◌, ◌*◌, ◌<◌, ◌≤◌, All, List, [], ◌∷◌, ◌++◌, length, take, drop, get_or, refl, sym, ap, ◌∙◌, subst, arith, append_assoc, Option, Some, None, length-append, replicate}
 use Rattle.std.proofs.Math.ListN.{set}
 use Rattle.std.proofs.Math.Seq.{set-append_seam}
 use Rattle.std.proofs.lemmas.List.{drop_more, replicate-append-replicate, length-take-le, length-drop, get_or_default, take_all, drop_all, append-nil}
@@ -8,7 +8,7 @@ use Rattle.load_meter.specs.LoadEye.{reading, known_at, ReadsNow}
 use Rattle.indirection.specs.Views.{LoadsView}
 use Rattle.balancer.specs.declared.limits.TheConstants.{MOST_LOAD}
 use Rattle.balancer.specs.Standing.{AreLoads}
-use Rattle.flow_work.specs.declared.work.TheConstants.{MOST_PACKETS}
+use Rattle.flow_work.specs.declared.work.TheConstants.{MOST_COST, MOST_PACKETS}
 use Rattle.dispatch_loop.specs.Does.{read_from, IsReading, AreReadings, bases_of}
 
 -- an element at the seam of a list that was written so far
@@ -122,13 +122,13 @@ bases-small (x ∷ xs) [] m h k = omega arith
 bases-small (x ∷ xs) (n ∷ ns) m h zero = let a = h 0 in omega arith
 bases-small (x ∷ xs) (n ∷ ns) m h (suc k) = bases-small xs ns m (λ j. h (suc j)) k
 
-all-small : (xs : List ℕ) → ((k : ℕ) → get_or xs k 0 ≤ MOST_PACKETS) → All (λ l. l ≤ MOST_LOAD) xs
+all-small : (xs : List ℕ) → ((k : ℕ) → get_or xs k 0 ≤ MOST_COST * MOST_PACKETS) → All (λ l. l ≤ MOST_LOAD) xs
 all-small xs h k d inside = let e = get_or_default xs k d 0 inside in let a = h k in omega arith
 
-pub are_loads : (cores buckets : ℕ) (l : LoadsView) (xs readings : List ℕ) → l.base ≡ bases_of xs readings → length xs ≡ cores → length readings ≡ length xs → length l.bucket ≡ buckets → ((b : ℕ) → get_or l.bucket b 0 ≤ MOST_PACKETS) → ((c : ℕ) → get_or xs c 0 ≤ MOST_PACKETS) → AreLoads cores buckets l
+pub are_loads : (cores buckets : ℕ) (l : LoadsView) (xs readings : List ℕ) → l.base ≡ bases_of xs readings → length xs ≡ cores → length readings ≡ length xs → length l.bucket ≡ buckets → ((b : ℕ) → get_or l.bucket b 0 ≤ MOST_COST * MOST_PACKETS) → ((c : ℕ) → get_or xs c 0 ≤ MOST_COST * MOST_PACKETS) → AreLoads cores buckets l
 are_loads cores buckets l xs readings e wide same deep small few = record {
   buckets_are = deep;
   cores_are = ap (λ (z : List ℕ). length z) e ∙ (length-bases xs readings (sym same) ∙ wide);
   load = all-small l.bucket small;
-  base = subst (λ (z : List ℕ). All (λ n. n ≤ MOST_LOAD) z) (sym e) (all-small (bases_of xs readings) (bases-small xs readings MOST_PACKETS few));
+  base = subst (λ (z : List ℕ). All (λ n. n ≤ MOST_LOAD) z) (sym e) (all-small (bases_of xs readings) (bases-small xs readings (MOST_COST * MOST_PACKETS) few));
 }

@@ -6,6 +6,7 @@ pub mod Face
 pub mod Asks
 pub mod Lanes
 pub mod Past
+pub mod Costs
 pub mod Stops
 pub mod Scene
 pub mod Tied
@@ -14,6 +15,7 @@ pub mod Does
 pub mod Rules
 pub mod Stays
 pub mod Views
+pub mod Fit
 pub mod Fresh
 pub mod Finished
 pub mod Sends

@@ -32,9 +32,9 @@ AreNamed None limit bytes = Unit {0}
 AreNamed (Some all) limit None = ⊥
 AreNamed (Some all) limit (Some bytes) = ArePackets limit bytes all
 
--- a packet as the journal sees it: its bucket, and that it counts for one
+-- a packet as the journal sees it: its bucket, and what it costs
 abbrev pub parcel_of : Terms → PacketInfo → Parcel
-parcel_of t p = record { bucket = bucket_of t.key (buckets_of t) p; cost = 1 }
+parcel_of t p = record { bucket = bucket_of t.key (buckets_of t) p; cost = t.cost p }
 
 abbrev pub parcels : Terms → List PacketInfo → List Parcel
 parcels t ps = map (parcel_of t) ps

@@ -5,22 +5,21 @@ use Rattle.packet_fields.specs.declared.packet.PacketInfo.{PacketInfo}
 use Rattle.indirection.specs.Tries.{Ask}
 use Rattle.indirection.specs.Story as story
 use Rattle.indirection.specs.Story.{RoundHead, Step, Rounds, Sends}
-use Rattle.balancer.specs.Greedy.{greedy_round}
 use Rattle.handover_words.specs.declared.eye.ShelfEye.{ShelfEye}
 use Rattle.handover_words.specs.Stock.{Stock}
 use Rattle.dispatch_loop.specs.declared.dispatcher_turn.DispatcherTurn.{DispatcherTurn}
 use Rattle.dispatch_loop.specs.declared.dispatcher_turn.DispatcherTurn.TheVariants.{Sent, Round, Ordered, EndSent, NoCell, LaneFull, Finished}
-use Rattle.dispatch_loop.specs.Terms.{Terms, cores_of}
+use Rattle.dispatch_loop.specs.Terms.{Terms}
 use Rattle.dispatch_loop.specs.Face.{Face}
 use Rattle.dispatch_loop.specs.Past.{Past, parcel_of, story}
 use Rattle.dispatch_loop.specs.Scene.{Outs, Scene}
-use Rattle.dispatch_loop.specs.Does.{loads_of}
+use Rattle.dispatch_loop.specs.Does.{loads_of, proposed_for}
 use Rattle.dispatch_loop.specs.Rules.{IsTurn, Acts, IsNext, Tries, Grows}
 use Rattle.dispatch_loop.specs.Tied.{TiedIn}
 
 -- the round of a dispatcher by these readings
 abbrev pub round_by : Face → List ℕ → RoundHead
-round_by f readings = record { at = f.sent; loads = loads_of f readings; proposals = greedy_round (cores_of f.terms) f.terms.limit (loads_of f readings) f.owners }
+round_by f readings = record { at = f.sent; loads = loads_of f readings; proposals = proposed_for f (loads_of f readings) }
 
 -- a try with its outcome, or none where the move lacks a cell
 abbrev pub tried_steps : {T : Type 0} → (turn : DispatcherTurn) → (a : Ask) → (f f' : Face) → (o : Outs) → (v : ShelfEye) → (n : Option (Stock T)) → (o' : Outs) → (v' : ShelfEye) → (n' : Option (Stock T)) → Tries turn a f f' o v n o' v' n' → List Step

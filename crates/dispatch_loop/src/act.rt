@@ -8,7 +8,8 @@ ghost use Rattle.dispatch_loop.specs.Scene.{scene, outs};
 ghost use Rattle.dispatch_loop.specs.Rules.{Acts, Fetched};
 ghost use Rattle.dispatch_loop.specs.Sends.{IsLoneLink};
 ghost use Rattle.dispatch_loop.specs.Stays.{StaysTied, IsTied};
-ghost use Rattle.dispatch_loop.specs.Views.{face_of, IsFit};
+ghost use Rattle.dispatch_loop.specs.Views.{face_of};
+ghost use Rattle.dispatch_loop.specs.Fit.{IsFit};
 
 use crate::DispatcherTurn;
 use crate::attempt::{next_asked, try_asked};
@@ -16,7 +17,9 @@ use crate::finish::send_end;
 use crate::intake::read_next;
 use crate::packet::send_packet;
 use crate::state::State;
+use balancer::Policy;
 use core_queue::LaneOut;
+use flow_work::FlowWork;
 use handover_words::{Shelf, Shelved};
 use packet_fields::RunName;
 use packet_pool::Pool;
@@ -24,11 +27,15 @@ use pcap_reader::Reader;
 use rss_base::Source;
 
 // Reads the next record, where no packet is held and the stream goes on.
-fn fetch<S: Source>(state: &mut State, reader: &mut Reader, source: &mut S)
+fn fetch<W: FlowWork, B: Policy, S: Source>(
+    state: &mut State<B>,
+    reader: &mut Reader,
+    source: &mut S,
+)
     requires { (p : Past) × IsFed state.old.packets p state.old.held state.old.end reader.old (S.left source.old) × (length p.packets ≡ state.old.desk.sent) }
     ensures fed { (p : Past) → IsFed state.old.packets p state.old.held state.old.end reader.old (S.left source.old) → length p.packets ≡ state.old.desk.sent → IsFed state.old.packets p state.new.held state.new.end reader.new (S.left source.new) }
     ensures has { (state.new.held ≢ None) ⊎ (state.new.end ≢ None) }
-    ensures fetched { Fetched (face_of state.old) (face_of state.new) reader.old reader.new (S.left source.old) (S.left source.new) (S.faults source.old) (S.faults source.new) }
+    ensures fetched { Fetched (face_of W.cost_of state.old) (face_of W.cost_of state.new) reader.old reader.new (S.left source.old) (S.left source.new) (S.faults source.old) (S.faults source.new) }
     ensures rest { state.new ≡ record state.old { held = state.new.held; end = state.new.end } }
     ensures origin { S.origin source.new ≡ S.origin source.old }
 {
@@ -43,31 +50,41 @@ fn fetch<S: Source>(state: &mut State, reader: &mut Reader, source: &mut S)
 
 /// Does the first rule that is due, where no round is. It doesn't touch the meter, whatever that
 /// has counted.
-pub(crate) fn act<N: RunName, S: Source, LO: LaneOut<N>, T: Shelved<N>, H: Shelf<T, N>, P: Pool>(
-    state: &mut State,
+pub(crate) fn act<
+    N: RunName,
+    W: FlowWork,
+    B: Policy,
+    S: Source,
+    LO: LaneOut<N>,
+    T: Shelved<N>,
+    H: Shelf<T, N>,
+    P: Pool,
+>(
+    work: &W,
+    state: &mut State<B>,
     reader: &mut Reader,
     source: &mut S,
     lanes: &mut [LO],
     shelf: &mut H,
     pool: &mut P,
 ) -> DispatcherTurn
-    requires fit { IsFit state.old }
+    requires fit { IsFit B.stated B.proposals state.old }
     requires lone { IsLoneLink state.old.spare }
-    requires none_due { due_now (face_of state.old) ≢ RoundDue }
-    requires tied { (m : LoadEye) × (n : Option (List ℕ)) × IsTied N.packets (scene (face_of state.old) (outs (map LO.eye lanes.old) (map LO.now lanes.old) (P.eye pool.old) (P.now pool.old)) (H.eye shelf.old) (H.now shelf.old) m n reader.old (S.left source.old) (S.faults source.old)) }
-    ensures tied { (m : LoadEye) (n : Option (List ℕ)) → StaysTied N.packets result (scene (face_of state.old) (outs (map LO.eye lanes.old) (map LO.now lanes.old) (P.eye pool.old) (P.now pool.old)) (H.eye shelf.old) (H.now shelf.old) m n reader.old (S.left source.old) (S.faults source.old)) (scene (face_of state.new) (outs (map LO.eye lanes.new) (map LO.now lanes.new) (P.eye pool.new) (P.now pool.new)) (H.eye shelf.new) (H.now shelf.new) m n reader.new (S.left source.new) (S.faults source.new)) }
-    ensures rule { (m : LoadEye) (n : Option (List ℕ)) → Acts result (scene (face_of state.old) (outs (map LO.eye lanes.old) (map LO.now lanes.old) (P.eye pool.old) (P.now pool.old)) (H.eye shelf.old) (H.now shelf.old) m n reader.old (S.left source.old) (S.faults source.old)) (scene (face_of state.new) (outs (map LO.eye lanes.new) (map LO.now lanes.new) (P.eye pool.new) (P.now pool.new)) (H.eye shelf.new) (H.now shelf.new) m n reader.new (S.left source.new) (S.faults source.new)) }
+    requires none_due { due_now (face_of W.cost_of state.old) ≢ RoundDue }
+    requires tied { (m : LoadEye) × (n : Option (List ℕ)) × IsTied N.packets (scene (face_of W.cost_of state.old) (outs (map LO.eye lanes.old) (map LO.now lanes.old) (P.eye pool.old) (P.now pool.old)) (H.eye shelf.old) (H.now shelf.old) m n reader.old (S.left source.old) (S.faults source.old)) }
+    ensures tied { (m : LoadEye) (n : Option (List ℕ)) → StaysTied N.packets result (scene (face_of W.cost_of state.old) (outs (map LO.eye lanes.old) (map LO.now lanes.old) (P.eye pool.old) (P.now pool.old)) (H.eye shelf.old) (H.now shelf.old) m n reader.old (S.left source.old) (S.faults source.old)) (scene (face_of W.cost_of state.new) (outs (map LO.eye lanes.new) (map LO.now lanes.new) (P.eye pool.new) (P.now pool.new)) (H.eye shelf.new) (H.now shelf.new) m n reader.new (S.left source.new) (S.faults source.new)) }
+    ensures rule { (m : LoadEye) (n : Option (List ℕ)) → Acts result (scene (face_of W.cost_of state.old) (outs (map LO.eye lanes.old) (map LO.now lanes.old) (P.eye pool.old) (P.now pool.old)) (H.eye shelf.old) (H.now shelf.old) m n reader.old (S.left source.old) (S.faults source.old)) (scene (face_of W.cost_of state.new) (outs (map LO.eye lanes.new) (map LO.now lanes.new) (P.eye pool.new) (P.now pool.new)) (H.eye shelf.new) (H.now shelf.new) m n reader.new (S.left source.new) (S.faults source.new)) }
     ensures homes { (map LO.home lanes.new ≡ map LO.home lanes.old) × (P.home pool.new ≡ P.home pool.old) × (H.home shelf.new ≡ H.home shelf.old) }
-    ensures fit { IsFit state.new }
+    ensures fit { IsFit B.stated B.proposals state.new }
     ensures lone { IsLoneLink state.new.spare }
     ensures origin { S.origin source.new ≡ S.origin source.old }
 {
-    if let Some(asked) = next_asked(state) {
-        return try_asked::<N, LO, T, H, P>(state, asked, lanes, shelf, pool);
+    if let Some(asked) = next_asked::<W, B>(state) {
+        return try_asked::<N, W, B, LO, T, H, P>(state, asked, lanes, shelf, pool);
     }
-    fetch(state, reader, source);
+    fetch::<W, B, S>(state, reader, source);
     match state.held {
-        Some(packet) => send_packet::<N, LO, P>(state, &packet, lanes, pool),
-        None => send_end::<N, LO>(state, lanes),
+        Some(packet) => send_packet::<N, W, B, LO, P>(work, state, &packet, lanes, pool),
+        None => send_end::<N, W, B, LO>(state, lanes),
     }
 }

@@ -1,8 +1,8 @@
-ghost use Rattle.std.specs.Prelude.{◌≡◌, ◌≢◌, ◌<◌, ◌≤◌, ◌+◌, length, slice_index, replicate, IfOk};
-ghost use Rattle.dispatch_loop.specs.Does.{one_more};
+ghost use Rattle.std.specs.Prelude.{◌≡◌, ◌≢◌, ◌<◌, ◌≤◌, ◌+◌, ◌*◌, length, slice_index, replicate, IfOk};
+ghost use Rattle.dispatch_loop.specs.Does.{more_at};
 ghost use Rattle.dispatch_loop.specs.Desk.{IsSettled, decided_owners, decided_starts};
 
-use flow_work::MOST_PACKETS;
+use flow_work::{MOST_COST, MOST_PACKETS};
 use indirection::{Outcome, Table};
 use rss_base::NoMemory;
 use std::alloc::Global;
@@ -18,7 +18,7 @@ pub(crate) struct Desk {
     pub(crate) counts: Vec<u32>,
     /// How many packets were sent.
     pub(crate) sent: u32,
-    /// For each core, how many packets were sent to it.
+    /// For each core, the costs of the packets that were sent to it.
     pub(crate) sent_to: Vec<u64>,
 }
 
@@ -94,20 +94,21 @@ impl Desk {
         }
     }
 
-    /// Counts a packet of a bucket, sent to its owner.
-    pub(crate) fn count(&mut self, bucket: u16, owner: u8)
+    /// Counts a packet of a bucket, and adds its cost to those of its owner.
+    pub(crate) fn count(&mut self, bucket: u16, owner: u8, cost: u32)
         requires counts { bucket < length self.old.counts.items }
         requires cores { owner < length self.old.sent_to.items }
         requires few { slice_index self.old.counts.items bucket ≤ self.old.sent }
-        requires fewer { slice_index self.old.sent_to.items owner ≤ self.old.sent }
+        requires fewer { slice_index self.old.sent_to.items owner ≤ MOST_COST * self.old.sent }
+        requires cost { cost ≤ MOST_COST }
         requires room { self.old.sent < MOST_PACKETS }
-        ensures counts { self.new.counts.items ≡ one_more bucket self.old.counts.items }
+        ensures counts { self.new.counts.items ≡ more_at bucket 1 self.old.counts.items }
         ensures sent { self.new.sent ≡ self.old.sent + 1 }
-        ensures sent_to { self.new.sent_to.items ≡ one_more owner self.old.sent_to.items }
+        ensures sent_to { self.new.sent_to.items ≡ more_at owner cost self.old.sent_to.items }
         ensures rest { self.new ≡ record self.old { counts = self.new.counts; sent = self.new.sent; sent_to = self.new.sent_to } }
     {
         self.counts[bucket as usize] += 1;
         self.sent += 1;
-        self.sent_to[owner as usize] += 1;
+        self.sent_to[owner as usize] += u64::from(cost);
     }
 }

@@ -7,16 +7,20 @@ ghost use Rattle.packet_fields.specs.declared.packet.PacketInfo.{PacketInfo};
 ghost use Rattle.dispatch_loop.specs.Accepted.{IsAccepted};
 ghost use Rattle.dispatch_loop.specs.Terms.{terms_of};
 ghost use Rattle.dispatch_loop.specs.Past.{past};
+ghost use Rattle.dispatch_loop.specs.Face.{face_by};
 ghost use Rattle.dispatch_loop.specs.Scene.{scene, outs};
 ghost use Rattle.dispatch_loop.specs.Tied.{Tied};
 ghost use Rattle.dispatch_loop.specs.Rules.{IsTurn, OnlyMeets};
 ghost use Rattle.dispatch_loop.specs.Stays.{StaysTied, IsTied};
 ghost use Rattle.dispatch_loop.specs.Fresh.{fresh_face, AreFresh};
+ghost use Rattle.dispatch_loop.specs.Fit.{IsPolicyOf};
 
 use crate::state::State;
 use crate::turn::turn_of;
 use crate::{DispatcherTurn, Options};
+use balancer::Policy;
 use core_queue::LaneOut;
+use flow_work::FlowWork;
 use handover_words::{Shelf, Shelved};
 use indirection::Journal;
 use load_meter::ReadLoad;
@@ -25,38 +29,46 @@ use packet_pool::Pool;
 use pcap_reader::Reader;
 use rss_base::{NoMemory, Source};
 use std::alloc::Global;
-use std::marker::Model;
+use std::marker::{Model, PhantomData};
 
 /// The dispatcher of a run: it reads packets, sends each to the core that owns its bucket, and
 /// moves buckets. Which packets it sent is held by nobody: the clauses of its turns speak of each
 /// list of packets that its journal and its lanes go with.
 #[derive(Drop)]
-pub struct Dispatcher {
-    state: State,
+pub struct Dispatcher<W: FlowWork, B: Policy> {
+    state: State<B>,
+    work: PhantomData<W>,
 }
 
-impl Model for Dispatcher {
-    ghost use Rattle.dispatch_loop.specs.Face.{Face};
+impl<W: FlowWork, B: Policy> Model for Dispatcher<W, B> {
+    ghost use Rattle.dispatch_loop.specs.Face.{DispatcherView};
     ghost use Rattle.dispatch_loop.specs.Sends.{IsLoneLink};
-    ghost use Rattle.dispatch_loop.specs.Views.{face_of, IsFit};
+    ghost use Rattle.dispatch_loop.specs.Views.{view_of};
+    ghost use Rattle.dispatch_loop.specs.Fit.{IsFit};
 
-    ghost Value = { Face };
+    ghost Value = { DispatcherView };
 
-    ghost view = { λ d. face_of d.state };
+    ghost view = { λ d. view_of d.state };
 
-    ghost invariant = { λ d. IsFit d.state × IsLoneLink d.state.spare };
+    ghost invariant = { λ d. IsFit B.stated B.proposals d.state × IsLoneLink d.state.spare };
 }
 
-impl Dispatcher {
-    /// A dispatcher with these options. It takes the memory for all orders of the journal.
-    pub fn new(alloc: Global, options: &Options) -> Result<Dispatcher, NoMemory>
-        requires { IsAccepted options.now }
-        ensures fresh { IfOk result (λ d. d ≡ fresh_face (terms_of options.now)) }
+impl<W: FlowWork, B: Policy> Dispatcher<W, B> {
+    /// A dispatcher with these options, for the work that its turns are lent. Its rounds go by the
+    /// policy, which proposes what that of the options' name does. It takes the memory for all
+    /// orders of the journal.
+    pub fn new(alloc: Global, options: &Options, policy: B) -> Result<Dispatcher<W, B>, NoMemory>
+        requires accepted { IsAccepted options.now }
+        requires policy { IsPolicyOf options.now (B.stated policy) B.proposals }
+        ensures fresh { IfOk result (λ d. face_by W.cost_of d ≡ fresh_face (terms_of W.cost_of options.now)) }
         ensures tied { IfOk result (λ d. (packets : Option (List PacketInfo)) (bytes : Option (List ℕ)) (lanes : List LaneEye) (shelf : ShelfEye) (meter : LoadEye) (reader : Reading) (left : Option (List ℕ))
-            → AreFresh packets bytes (terms_of options.now) lanes shelf meter reader left → Tied packets (past bytes []) d lanes shelf meter reader left) }
+            → AreFresh packets bytes (terms_of W.cost_of options.now) lanes shelf meter reader left → Tied packets (past bytes []) (face_by W.cost_of d) lanes shelf meter reader left) }
     {
-        let state = State::new(alloc, options)?;
-        Ok(Dispatcher { state })
+        let state = State::new(alloc, options, policy)?;
+        Ok(Dispatcher {
+            state,
+            work: PhantomData,
+        })
     }
 
     /// Does the first of these that is due: the round of this position, which goes into the
@@ -74,6 +86,7 @@ impl Dispatcher {
         M: ReadLoad,
     >(
         &mut self,
+        work: &W,
         reader: &mut Reader,
         source: &mut S,
         lanes: &mut [LO],
@@ -81,14 +94,23 @@ impl Dispatcher {
         pool: &mut P,
         meter: &mut M,
     ) -> DispatcherTurn
-        requires { IsTied N.packets (scene self.old (outs (map LO.eye lanes.old) (map LO.now lanes.old) (P.eye pool.old) (P.now pool.old)) (H.eye shelf.old) (H.now shelf.old) (M.eye meter.old) (M.now meter.old) reader.old (S.left source.old) (S.faults source.old)) }
-        ensures tied { StaysTied N.packets result (scene self.old (outs (map LO.eye lanes.old) (map LO.now lanes.old) (P.eye pool.old) (P.now pool.old)) (H.eye shelf.old) (H.now shelf.old) (M.eye meter.old) (M.now meter.old) reader.old (S.left source.old) (S.faults source.old)) (scene self.new (outs (map LO.eye lanes.new) (map LO.now lanes.new) (P.eye pool.new) (P.now pool.new)) (H.eye shelf.new) (H.now shelf.new) (M.eye meter.new) (M.now meter.new) reader.new (S.left source.new) (S.faults source.new)) }
-        ensures rule { IsTurn (scene self.old (outs (map LO.eye lanes.old) (map LO.now lanes.old) (P.eye pool.old) (P.now pool.old)) (H.eye shelf.old) (H.now shelf.old) (M.eye meter.old) (M.now meter.old) reader.old (S.left source.old) (S.faults source.old)) result (scene self.new (outs (map LO.eye lanes.new) (map LO.now lanes.new) (P.eye pool.new) (P.now pool.new)) (H.eye shelf.new) (H.now shelf.new) (M.eye meter.new) (M.now meter.new) reader.new (S.left source.new) (S.faults source.new)) }
+        requires { IsTied N.packets (scene (face_by W.cost_of self.old) (outs (map LO.eye lanes.old) (map LO.now lanes.old) (P.eye pool.old) (P.now pool.old)) (H.eye shelf.old) (H.now shelf.old) (M.eye meter.old) (M.now meter.old) reader.old (S.left source.old) (S.faults source.old)) }
+        ensures tied { StaysTied N.packets result (scene (face_by W.cost_of self.old) (outs (map LO.eye lanes.old) (map LO.now lanes.old) (P.eye pool.old) (P.now pool.old)) (H.eye shelf.old) (H.now shelf.old) (M.eye meter.old) (M.now meter.old) reader.old (S.left source.old) (S.faults source.old)) (scene (face_by W.cost_of self.new) (outs (map LO.eye lanes.new) (map LO.now lanes.new) (P.eye pool.new) (P.now pool.new)) (H.eye shelf.new) (H.now shelf.new) (M.eye meter.new) (M.now meter.new) reader.new (S.left source.new) (S.faults source.new)) }
+        ensures rule { IsTurn (scene (face_by W.cost_of self.old) (outs (map LO.eye lanes.old) (map LO.now lanes.old) (P.eye pool.old) (P.now pool.old)) (H.eye shelf.old) (H.now shelf.old) (M.eye meter.old) (M.now meter.old) reader.old (S.left source.old) (S.faults source.old)) result (scene (face_by W.cost_of self.new) (outs (map LO.eye lanes.new) (map LO.now lanes.new) (P.eye pool.new) (P.now pool.new)) (H.eye shelf.new) (H.now shelf.new) (M.eye meter.new) (M.now meter.new) reader.new (S.left source.new) (S.faults source.new)) }
         ensures homes { (map LO.home lanes.new ≡ map LO.home lanes.old) × (P.home pool.new ≡ P.home pool.old) × (H.home shelf.new ≡ H.home shelf.old) × (M.home meter.new ≡ M.home meter.old) }
         ensures shelf { OnlyMeets (H.eye shelf.old) (H.eye shelf.new) }
         ensures origin { S.origin source.new ≡ S.origin source.old }
     {
-        turn_of::<N, S, LO, T, H, P, M>(&mut self.state, reader, source, lanes, shelf, pool, meter)
+        turn_of::<N, W, B, S, LO, T, H, P, M>(
+            work,
+            &mut self.state,
+            reader,
+            source,
+            lanes,
+            shelf,
+            pool,
+            meter,
+        )
     }
 
     /// The journal so far.

@@ -35,6 +35,7 @@ mod options;
 mod orders;
 mod packet;
 mod packets;
+mod policy;
 mod round;
 mod rounds;
 mod sending;
@@ -56,3 +57,4 @@ pub use limits::{
 };
 pub use options::Options;
 pub use packets::next_packet;
+pub use policy::policy_of;

@@ -4,14 +4,17 @@ ghost use Rattle.balancer.specs.Moves.{AreMoves};
 ghost use Rattle.dispatch_loop.specs.Terms.{cores_of, buckets_of};
 ghost use Rattle.dispatch_loop.specs.Does.{ReadsAll, bases_of, loads_of, with_round, without_round};
 ghost use Rattle.dispatch_loop.specs.Rules.{Rounded};
-ghost use Rattle.dispatch_loop.specs.Views.{face_of, IsFit, CanWeigh};
+ghost use Rattle.dispatch_loop.specs.Views.{face_of, CanWeigh};
+ghost use Rattle.dispatch_loop.specs.Fit.{IsFit};
 
 use crate::rounds::propose;
 use crate::state::State;
+use balancer::Policy;
+use flow_work::FlowWork;
 use indirection::{Loads, MOST_CORES};
 use load_meter::ReadLoad;
 
-// Reads the meter, and weighs what was sent to each core and isn't worked yet.
+// Reads the meter, and weighs the costs of what was sent to each core and isn't worked yet.
 fn weigh<M: ReadLoad>(sent_to: &[u64], loads: &mut Loads, meter: &mut M)
     requires bases { length sent_to.now ≡ length loads.old.base }
     requires cores { length sent_to.now ≤ (M.eye meter.old).cores }
@@ -28,20 +31,24 @@ fn weigh<M: ReadLoad>(sent_to: &[u64], loads: &mut Loads, meter: &mut M)
 
 /// Makes the round that is due. Answers whether the journal took it: where memory is refused to it,
 /// the dispatcher is short from then on.
-pub(crate) fn make_round<M: ReadLoad>(state: &mut State, meter: &mut M) -> bool
-    requires fit { IsFit state.old }
+pub(crate) fn make_round<W: FlowWork, B: Policy, M: ReadLoad>(
+    state: &mut State<B>,
+    meter: &mut M,
+) -> bool
+    requires fit { IsFit B.stated B.proposals state.old }
     requires can { CanWeigh state.old }
-    requires cores { cores_of (face_of state.old).terms ≤ (M.eye meter.old).cores }
+    requires cores { cores_of (face_of W.cost_of state.old).terms ≤ (M.eye meter.old).cores }
     ensures home { M.home meter.new ≡ M.home meter.old }
-    ensures fit { IsFit state.new }
+    ensures fit { IsFit B.stated B.proposals state.new }
     ensures spare { state.new.spare ≡ state.old.spare }
-    ensures moves { AreMoves (cores_of (face_of state.old).terms) (buckets_of (face_of state.old).terms) (face_of state.new).proposals }
-    ensures made { (readings : List ℕ) × ReadsAll (cores_of (face_of state.old).terms) readings (M.eye meter.old) (M.now meter.old) (M.eye meter.new) (M.now meter.new)
-        × (face_of state.new ≡ (if result then with_round (face_of state.old) (loads_of (face_of state.old) readings) else without_round (face_of state.old))) }
+    ensures moves { AreMoves (cores_of (face_of W.cost_of state.old).terms) (buckets_of (face_of W.cost_of state.old).terms) (face_of W.cost_of state.new).proposals }
+    ensures made { (readings : List ℕ) × ReadsAll (cores_of (face_of W.cost_of state.old).terms) readings (M.eye meter.old) (M.now meter.old) (M.eye meter.new) (M.now meter.new)
+        × (face_of W.cost_of state.new ≡ (if result then with_round (face_of W.cost_of state.old) (loads_of (face_of W.cost_of state.old) readings) else without_round (face_of W.cost_of state.old))) }
 {
     weigh(&state.desk.sent_to, &mut state.rounds.loads, meter);
     propose(
-        &mut state.rounds.balancer,
+        &mut state.rounds.policy,
+        &mut state.rounds.proposals,
         &state.rounds.loads,
         &state.desk.table,
         state.rounds.limit,
@@ -49,7 +56,7 @@ pub(crate) fn make_round<M: ReadLoad>(state: &mut State, meter: &mut M) -> bool
     let noted = state.journal.push_round(
         state.desk.sent,
         &state.rounds.loads,
-        state.rounds.balancer.proposals(),
+        &state.rounds.proposals,
     );
     if noted.is_err() {
         state.rounds.refuse();
@@ -60,17 +67,20 @@ pub(crate) fn make_round<M: ReadLoad>(state: &mut State, meter: &mut M) -> bool
 }
 
 /// Makes the round, where one is due. Answers whether the journal took it.
-pub(crate) fn pass_round<M: ReadLoad>(state: &mut State, meter: &mut M) -> bool
-    requires fit { IsFit state.old }
+pub(crate) fn pass_round<W: FlowWork, B: Policy, M: ReadLoad>(
+    state: &mut State<B>,
+    meter: &mut M,
+) -> bool
+    requires fit { IsFit B.stated B.proposals state.old }
     requires can { CanWeigh state.old }
-    requires cores { cores_of (face_of state.old).terms ≤ (M.eye meter.old).cores }
+    requires cores { cores_of (face_of W.cost_of state.old).terms ≤ (M.eye meter.old).cores }
     ensures home { M.home meter.new ≡ M.home meter.old }
-    ensures fit { IsFit state.new }
+    ensures fit { IsFit B.stated B.proposals state.new }
     ensures spare { state.new.spare ≡ state.old.spare }
-    ensures rounded { Rounded result (face_of state.old) (face_of state.new) (M.eye meter.old) (M.now meter.old) (M.eye meter.new) (M.now meter.new) }
+    ensures rounded { Rounded result (face_of W.cost_of state.old) (face_of W.cost_of state.new) (M.eye meter.old) (M.now meter.old) (M.eye meter.new) (M.now meter.new) }
 {
     if !state.rounds.is_due() {
         return false;
     }
-    make_round(state, meter)
+    make_round::<W, B, M>(state, meter)
 }

@@ -1,6 +1,7 @@
 -- A dispatcher and its ends as they are made.
 use Rattle.std.proofs.Common.{◌≡◌, ℕ, zero, suc, List, [], ◌∷◌, map, drop, length, Option, Some, None, sym, ap, ◌∙◌, subst, arith, slice_get}
 use Rattle.rss_base.specs.Memory.{Feed}
+use Rattle.flow_work.specs.Costs.{one, one_fits}
 use Rattle.flow_work.specs.declared.count.Counted.{Counted}
 use Rattle.bucket_table.specs.Table.{TableOf}
 use Rattle.toeplitz.specs.declared.key.Key.{Key}
@@ -28,24 +29,24 @@ abbrev eye_of : LocalState → LaneEye
 eye_of l = l.eye
 
 new_eyes : (t : Terms) (l k : LocalState) → IsFreshLane t l.eye → IsFreshLane t k.eye → (c : ℕ) (e : LaneEye) → slice_get (map eye_of (l ∷ k ∷ [])) c ≡ Some e → IsFreshLane t e
-new_eyes t l k one two zero e at = let is : l.eye ≡ e = cc in subst (IsFreshLane t) is one
-new_eyes t l k one two (suc zero) e at = let is : k.eye ≡ e = cc in subst (IsFreshLane t) is two
-new_eyes t l k one two (suc (suc c)) e at = absurd (cc)
+new_eyes t l k of_l of_k zero e at = let is : l.eye ≡ e = cc in subst (IsFreshLane t) is of_l
+new_eyes t l k of_l of_k (suc zero) e at = let is : k.eye ≡ e = cc in subst (IsFreshLane t) is of_k
+new_eyes t l k of_l of_k (suc (suc c)) e at = absurd (cc)
 
-fresh_lane : (o : OptionsView) (key : Key) (buckets room : ℕ) → key ≡ o.key → buckets ≡ length o.start.owners → (l : LocalState) → l ≡ new_lane key buckets room → IsFreshLane (terms_of o) l.eye
+fresh_lane : (o : OptionsView) (key : Key) (buckets room : ℕ) → key ≡ o.key → buckets ≡ length o.start.owners → (l : LocalState) → l ≡ new_lane key buckets room → IsFreshLane (terms_of one o) l.eye
 fresh_lane o key buckets room same_key same_buckets l is = record { key = ap (λ (z : LocalState). z.eye.key) is ∙ same_key; buckets = ap (λ (z : LocalState). z.eye.buckets) is ∙ same_buckets; sent = ap (λ (z : LocalState). z.eye.sent) is }
 
-pub rig_begins : (o : OptionsView) → IsAccepted o → o.cores ≡ 2 → (key : Key) (buckets room : ℕ) → key ≡ o.key → buckets ≡ length o.start.owners → (d : Face) → d ≡ fresh_face (terms_of o) → (l k : LocalState) → l ≡ new_lane key buckets room → k ≡ new_lane key buckets room
+pub rig_begins : (o : OptionsView) → IsAccepted o → o.cores ≡ 2 → (key : Key) (buckets room : ℕ) → key ≡ o.key → buckets ≡ length o.start.owners → (d : Face) → d ≡ fresh_face (terms_of one o) → (l k : LocalState) → l ≡ new_lane key buckets room → k ≡ new_lane key buckets room
     → (v : LocalView (TableOf Counted)) → v.eye ≡ fresh key buckets 1 → (m : MeterState) → m ≡ at_zero 2 → (r : Reading) (source : Feed) (bytes : Option (List ℕ))
     → TakesHeader bytes (still r (Some (drop source.given source.all))) r.form → (r.given ≡ 0) × (r.progress ≡ Going) → IsRig d (l ∷ k ∷ []) v m r source None
-rig_begins o accepted two key buckets room same_key same_buckets d is l k one other v shelf m meter r source bytes header first = record {
+rig_begins o accepted two key buckets room same_key same_buckets d is l k of_l of_k v shelf m meter r source bytes header first = record {
   tied = (
     past bytes [],
     subst (λ (f : Face). Tied None (past bytes []) f (map eye_of (l ∷ k ∷ [])) v.eye m.eye r (Some (drop source.given source.all))) (sym is)
-        (tied-fresh None bytes (terms_of o) (map eye_of (l ∷ k ∷ [])) v.eye m.eye r (Some (drop source.given source.all)) (sound o accepted) (record {
+        (tied-fresh None bytes (terms_of one o) (map eye_of (l ∷ k ∷ [])) v.eye m.eye r (Some (drop source.given source.all)) (sound one o (λ p. (one_fits p).1) accepted) (record {
           named = tt;
           wide = sym (accepted.cores ∙ two);
-          each = new_eyes (terms_of o) l k (fresh_lane o key buckets room same_key same_buckets l one) (fresh_lane o key buckets room same_key same_buckets k other);
+          each = new_eyes (terms_of one o) l k (fresh_lane o key buckets room same_key same_buckets l of_l) (fresh_lane o key buckets room same_key same_buckets k of_k);
           words = ap (λ (z : ShelfEye). z.buckets) shelf ∙ same_buckets;
           numbers = let a = accepted.cores in let b = ap (λ (z : MeterState). z.eye.cores) meter in omega arith;
           given = first.0;

@@ -5,6 +5,7 @@ ghost use Rattle.dispatch_loop.specs.declared.limits.TheConstants.{LEAST_PACKETS
 
 use crate::capture::{EVEN, capture};
 use crate::rig::Rig;
+use balancer::PolicyName;
 use dispatch_loop::{DispatcherEnd, Options};
 use flow_work::WorkName;
 use indirection::Table;
@@ -28,6 +29,7 @@ fn options(alloc: Global, packets: u32) -> Result<Options, Fail>
         moves: Vec::new(alloc),
         round: 1_000,
         limit: 4,
+        policy: PolicyName::Greedy,
         pool: 8,
         packets,
     })

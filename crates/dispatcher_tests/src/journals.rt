@@ -6,6 +6,7 @@ use crate::capture::{EVEN, capture};
 use crate::rig::Rig;
 use crate::step::Step;
 use crate::step::Step::{Claim, Release, Turn};
+use balancer::PolicyName;
 use dispatch_loop::DispatcherTurn::{EndSent, Finished, Ordered, Sent};
 use dispatch_loop::{DispatcherEnd, Options};
 use flow_work::WorkName;
@@ -74,6 +75,7 @@ fn handovers(alloc: Global, back: MoveOrder) -> Result<Options, Fail>
         moves: vec![in alloc; THERE, back]?,
         round: 1_000,
         limit: 4,
+        policy: PolicyName::Greedy,
         pool: 16,
         packets: 6,
     })
@@ -195,6 +197,7 @@ fn orders_of_each_kind(alloc: Global) -> Result<Options, Fail>
         moves: vec![in alloc; PLACING, STAYING, THERE, RETURNING]?,
         round: 1_000,
         limit: 4,
+        policy: PolicyName::Greedy,
         pool: 8,
         packets: 3,
     })

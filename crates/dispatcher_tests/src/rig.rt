@@ -4,9 +4,10 @@ ghost use Rattle.dispatch_loop.specs.Accepted.{IsAccepted};
 use crate::hand::{take_from, work_until};
 use crate::step::Step;
 use crate::turning::finish;
-use bucket_table::BucketTable;
+use balancer::Balancer;
+use bucket_table::{BucketTable, FLOW_HASH_KEY_BYTES, FlowHashKey};
 use core_queue::{Item, LocalLane};
-use dispatch_loop::{Dispatcher, DispatcherEnd, DispatcherTurn, Options};
+use dispatch_loop::{Dispatcher, DispatcherEnd, DispatcherTurn, Options, policy_of};
 use flow_work::Count;
 use handover_core::Item as Sent;
 use handover_words::{LocalShelf, Shelf};
@@ -24,7 +25,7 @@ use std::test::Fail;
 /// steps of workers are done by hand.
 #[derive(Drop)]
 pub(crate) struct Rig {
-    dispatcher: Dispatcher,
+    dispatcher: Dispatcher<Count, Balancer>,
     reader: Reader,
     source: MemorySource,
     lanes: [LocalLane<NoName>; 2],
@@ -36,13 +37,15 @@ pub(crate) struct Rig {
 }
 
 impl Model for Rig {
+    ghost use Rattle.flow_work.specs.Costs.{one};
+    ghost use Rattle.dispatch_loop.specs.Face.{face_by};
     ghost use Rattle.dispatcher_tests.specs.Rig.{IsRig};
 
     ghost Value = { Unit {0} };
 
     ghost view = { λ r. tt };
 
-    ghost invariant = { λ r. IsRig r.dispatcher r.lanes r.shelf r.meter r.reader r.source r.held };
+    ghost invariant = { λ r. IsRig (face_by one r.dispatcher) r.lanes r.shelf r.meter r.reader r.source r.held };
 }
 
 impl Rig {
@@ -60,12 +63,19 @@ impl Rig {
         requires room { 0 < room }
     {
         let buckets = options.start.buckets();
-        let dispatcher = Dispatcher::new(alloc, options)?;
+        let policy = policy_of(alloc, options)?;
+        let dispatcher = Dispatcher::new(alloc, options, policy)?;
         let mut source = MemorySource::new(bytes, Vec::new(alloc), fail_at);
         let reader = Reader::start(alloc, &mut source)?;
         let first = LocalLane::new(alloc, room, &options.key, buckets)?;
         let second = LocalLane::new(alloc, room, &options.key, buckets)?;
-        let shelf = LocalShelf::<BucketTable<Count>, NoName>::new(alloc, &options.key, buckets)?;
+        let hashing = FlowHashKey::from_bytes(&[7; FLOW_HASH_KEY_BYTES]);
+        let shelf = LocalShelf::<BucketTable<Count>, NoName>::new(
+            alloc,
+            &options.key,
+            buckets,
+            &hashing,
+        )?;
         let pool = LocalPool::new(alloc, options.pool)?;
         let meter = LocalMeter::new(alloc, 2)?;
         Ok(Rig {
@@ -91,6 +101,7 @@ impl Rig {
                 LocalPool,
                 LocalMeter,
             >(
+                &Count,
                 &mut self.reader,
                 &mut self.source,
                 &mut self.lanes,
@@ -104,6 +115,8 @@ impl Rig {
     pub(crate) fn finish(&mut self, most: u32) -> Option<DispatcherEnd> {
         finish::<
             NoName,
+            Count,
+            Balancer,
             MemorySource,
             LocalLane<NoName>,
             BucketTable<Count>,
@@ -112,6 +125,7 @@ impl Rig {
             LocalMeter,
         >(
             &mut self.dispatcher,
+            &Count,
             &mut self.reader,
             &mut self.source,
             &mut self.lanes,

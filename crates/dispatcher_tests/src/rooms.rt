@@ -8,6 +8,7 @@ use crate::journals::has_orders;
 use crate::rig::Rig;
 use crate::step::Step;
 use crate::step::Step::{Claim, Turn};
+use balancer::PolicyName;
 use dispatch_loop::DispatcherTurn::{EndSent, Finished, LaneFull, NoCell, Ordered, Sent};
 use dispatch_loop::{DispatcherEnd, Options};
 use flow_work::WorkName;
@@ -40,6 +41,7 @@ fn options(alloc: Global, pool: u32) -> Result<Options, Fail>
         moves: vec![in alloc; THERE]?,
         round: 1_000,
         limit: 4,
+        policy: PolicyName::Greedy,
         pool,
         packets: 3,
     })

@@ -7,6 +7,7 @@ use crate::journals::is_order;
 use crate::rig::Rig;
 use crate::step::Step;
 use crate::step::Step::{Claim, Note, Turn};
+use balancer::PolicyName;
 use dispatch_loop::DispatcherTurn::{EndSent, Finished, Ordered, Round, Sent};
 use dispatch_loop::{DispatcherEnd, Options};
 use flow_work::WorkName;
@@ -37,6 +38,7 @@ fn options(alloc: Global) -> Result<Options, Fail>
         moves: vec![in alloc; BESIDE]?,
         round: 3,
         limit: 4,
+        policy: PolicyName::Greedy,
         pool: 8,
         packets: 4,
     })

@@ -2,7 +2,7 @@ ghost use Rattle.std.specs.Prelude.{◌≡◌, false};
 
 use crate::sums::totals;
 use crate::{ReportFault, Totals, report};
-use bucket_table::BucketTable;
+use bucket_table::{BucketTable, FLOW_HASH_KEY_BYTES, FlowHashKey};
 use flow_work::Count;
 use packet_fields::{Class, FlowKey, PacketInfo};
 use rss_base::MemorySink;
@@ -30,12 +30,17 @@ fn packet(port: u16, original: u32) -> PacketInfo {
     }
 }
 
+// Numbers to hash by, which everybody knows.
+fn hashing() -> FlowHashKey {
+    FlowHashKey::from_bytes(&[7; FLOW_HASH_KEY_BYTES])
+}
+
 // A table of two flows, the later of which comes first in key order.
 fn table_of_two(rt: &impl Abort, alloc: Global) -> BucketTable<Count>
     ensures short { result.short ≡ false }
     ensures done { result.done ≡ 2 }
 {
-    let mut table = BucketTable::<Count>::new(alloc, 0).expect(rt, "memory");
+    let mut table = BucketTable::<Count>::new(alloc, 0, &hashing()).expect(rt, "memory");
     table.begin_custody(0);
     table.work(&Count, &packet(2000, 60), 0);
     table.work(&Count, &packet(1000, 100), 1);

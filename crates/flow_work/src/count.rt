@@ -1,6 +1,7 @@
 ghost use Rattle.std.specs.Prelude.{◌≡◌, ◌++◌, OnOk, OnErr};
 ghost use Rattle.rss_base.specs.Piece.{GrowsByFront};
 ghost use Rattle.flow_work.specs.Count.{no_packets, counted, count_text, IsCountOf};
+ghost use Rattle.flow_work.specs.Costs.{one, one_fits};
 
 use crate::FlowWork;
 use packet_fields::PacketInfo;
@@ -30,6 +31,10 @@ impl FlowWork for Count {
 
     ghost stands_for = { IsCountOf };
 
+    ghost cost_of = { one };
+
+    ghost costs = { one_fits };
+
     fn begin(&self) -> Counted {
         Counted {
             packets: 0,
@@ -43,6 +48,10 @@ impl FlowWork for Count {
             packets: state.packets + 1,
             bytes: state.bytes + u64::from(length),
         }
+    }
+
+    fn cost(&self, _packet: &PacketInfo) -> u32 {
+        1
     }
 
     fn line(&self, state: &Counted, text: &mut Text) -> Result<(), NoMemory> {

@@ -1,6 +1,7 @@
 ghost use Rattle.std.specs.Prelude.{◌≡◌, ◌++◌, OnOk, OnErr, ⊤};
 ghost use Rattle.rss_base.specs.Piece.{GrowsByFront};
 ghost use Rattle.flow_work.specs.Gaps.{gap_since, no_gap, gap_after, gap_text};
+ghost use Rattle.flow_work.specs.Costs.{one, one_fits};
 
 use crate::FlowWork;
 use packet_fields::PacketInfo;
@@ -41,6 +42,10 @@ impl FlowWork for Gaps {
 
     ghost stands_for = { λ _ _. ⊤ };
 
+    ghost cost_of = { one };
+
+    ghost costs = { one_fits };
+
     fn begin(&self) -> SeenGaps {
         SeenGaps {
             greatest: 0,
@@ -54,6 +59,10 @@ impl FlowWork for Gaps {
             greatest: state.greatest.max(gap_since(state.before, now)),
             before: Some(now),
         }
+    }
+
+    fn cost(&self, _packet: &PacketInfo) -> u32 {
+        1
     }
 
     fn line(&self, state: &SeenGaps, text: &mut Text) -> Result<(), NoMemory> {

@@ -23,5 +23,5 @@ pub use laws::{count_law, flags_law, gap_law, order_law};
 pub use limit_laws::limits_are_stated;
 pub use order_fold::{FACTOR, OrderFold};
 pub use tcp_flags::{FIN, RST, SYN, SeenFlags, TcpFlags};
-pub use work::{FlowWork, MOST_PACKETS};
+pub use work::{FlowWork, MOST_COST, MOST_PACKETS};
 pub use work_name::WorkName;

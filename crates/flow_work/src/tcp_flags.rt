@@ -1,6 +1,7 @@
 ghost use Rattle.std.specs.Prelude.{◌≡◌, ◌++◌, OnOk, OnErr};
 ghost use Rattle.rss_base.specs.Piece.{GrowsByFront};
 ghost use Rattle.flow_work.specs.TcpFlags.{bit_count, no_flags, flags_after, flags_text, AreFlagsOf};
+ghost use Rattle.flow_work.specs.Costs.{one, one_fits};
 
 use crate::FlowWork;
 use packet_fields::PacketInfo;
@@ -52,6 +53,10 @@ impl FlowWork for TcpFlags {
 
     ghost stands_for = { AreFlagsOf };
 
+    ghost cost_of = { one };
+
+    ghost costs = { one_fits };
+
     fn begin(&self) -> SeenFlags {
         SeenFlags {
             flags: 0,
@@ -69,6 +74,10 @@ impl FlowWork for TcpFlags {
             fin: state.fin + bit_count(flags, FIN),
             rst: state.rst + bit_count(flags, RST),
         }
+    }
+
+    fn cost(&self, _packet: &PacketInfo) -> u32 {
+        1
     }
 
     fn line(&self, state: &SeenFlags, text: &mut Text) -> Result<(), NoMemory> {

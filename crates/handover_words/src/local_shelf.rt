@@ -7,7 +7,7 @@ ghost use Rattle.handover_words.specs.LocalShelf.{Closes};
 use crate::told::{Done, Run, Told};
 use crate::word::home_word;
 use crate::{NotYet, Shelf, ShelfEye, Shelved};
-use bucket_table::BucketTable;
+use bucket_table::{BucketTable, FlowHashKey};
 use flow_work::FlowWork;
 use known::Known;
 use packet_fields::RunName;
@@ -43,6 +43,7 @@ impl<T: Shelved<N>, N: RunName> Model for LocalShelf<T, N> {
 pub(crate) fn first_tables<W: FlowWork>(
     alloc: Global,
     buckets: u16,
+    hashing: &FlowHashKey,
 ) -> Result<Vec<Option<BucketTable<W>>>, NoMemory>
     ensures { IfOk result (λ homes. homes.items ≡ map (λ b. Some (empty_table b)) (range_with_len 0 buckets)) }
 {
@@ -50,23 +51,25 @@ pub(crate) fn first_tables<W: FlowWork>(
         return Err(NoMemory);
     };
     for bucket in 0..buckets {
-        homes.push_reserved(Some(BucketTable::new(alloc, bucket)?));
+        homes.push_reserved(Some(BucketTable::new(alloc, bucket, hashing)?));
     }
     Ok(homes)
 }
 
 impl<W: FlowWork, N: RunName> LocalShelf<BucketTable<W>, N> {
-    /// A shelf on which an empty table of each bucket lies. No later call takes memory.
+    /// A shelf on which an empty table of each bucket lies, which hashes by the numbers handed in. No
+    /// later call takes memory.
     pub fn new(
         alloc: Global,
         key: &Key,
         buckets: u16,
+        hashing: &FlowHashKey,
     ) -> Result<LocalShelf<BucketTable<W>, N>, NoMemory>
         ensures eye { IfOk result (λ s. s.eye ≡ fresh key.now buckets 1) }
         ensures words { IfOk result (λ s. s.words ≡ replicate buckets 1) }
         ensures homes { IfOk result (λ s. s.homes ≡ map (λ b. Some (empty_table b)) (range_with_len 0 buckets)) }
     {
-        let homes = first_tables(alloc, buckets)?;
+        let homes = first_tables(alloc, buckets, hashing)?;
         LocalShelf::of(alloc, key, buckets, homes)
     }
 }

@@ -2,4 +2,4 @@
 pub const MOST_CORES: u8 = 64;
 
 /// The most buckets that a table may have.
-pub const MOST_BUCKETS: u16 = 512;
+pub const MOST_BUCKETS: u16 = 2048;

@@ -1,13 +1,12 @@
 -- What a command writes, by whether it names a number of a serial run.
 use Rattle.std.proofs.Common.{◌≡◌, ℕ, List, sym, subst, Option, None, Some}
 use Rattle.packet_fields.specs.declared.packet.PacketInfo.{PacketInfo}
-use Rattle.dispatch_loop.specs.Terms.{terms_of}
 use Rattle.command_words.specs.declared.command.Command.{Command}
 use Rattle.rsspp_main.specs.declared.fault.TopFault.{TopFault}
-use Rattle.rsspp_main.specs.declared.fault.TopFault.TheVariants.{Words, Capture, Line, ReadFault, WriteFault, NoMemory, TooMany}
+use Rattle.rsspp_main.specs.declared.fault.TopFault.TheVariants.{Words, Capture, Line, ReadFault, Undrawn, WriteFault, NoMemory, TooMany}
 use Rattle.rsspp_main.specs.declared.trace.Trace.{Trace}
 use Rattle.rsspp_main.specs.Reports.{WritesSerial}
-use Rattle.rsspp_main.specs.Run.{Ends, Explains, report_by}
+use Rattle.rsspp_main.specs.Run.{Ends, Explains, report_by, run_terms}
 use Rattle.rsspp_main.specs.Threads.{IsThreadedText, WritesRun}
 
 module _ (packets : Option (List PacketInfo)) (c : Command) (told : Option Trace) (old new : Ends) where
@@ -17,16 +16,18 @@ module _ (packets : Option (List PacketInfo)) (c : Command) (told : Option Trace
   by_number number (Some (Capture e)) h = h
   by_number number (Some (Line k)) h = h
   by_number number (Some ReadFault) h = h
+  by_number number (Some Undrawn) h = h
   by_number number (Some WriteFault) h = h
   by_number number (Some NoMemory) h = h
   by_number number (Some (TooMany n)) h = h
 
-  by_threads : (fault : Option TopFault) → Explains c.options.packets (IsThreadedText packets (report_by c.options.work) c.journal (terms_of c.options) told) old new fault → Explains c.options.packets (WritesRun packets c None told) old new fault
+  by_threads : (fault : Option TopFault) → Explains c.options.packets (IsThreadedText packets (report_by c.options.work) c.journal (run_terms c.options) told) old new fault → Explains c.options.packets (WritesRun packets c None told) old new fault
   by_threads None h = h
   by_threads (Some (Words w)) h = h
   by_threads (Some (Capture e)) h = h
   by_threads (Some (Line k)) h = h
   by_threads (Some ReadFault) h = h
+  by_threads (Some Undrawn) h = h
   by_threads (Some WriteFault) h = h
   by_threads (Some NoMemory) h = h
   by_threads (Some (TooMany n)) h = h
@@ -36,5 +37,5 @@ module _ (packets : Option (List PacketInfo)) (c : Command) (told : Option Trace
   serial_run number fault is h = subst (λ (o : Option ℕ). Explains c.options.packets (WritesRun packets c o told) old new fault) (sym is) (by_number number fault h)
 
   -- a run in threads is that of a command that names none
-  pub threaded_run : (fault : Option TopFault) → c.serial ≡ None → Explains c.options.packets (IsThreadedText packets (report_by c.options.work) c.journal (terms_of c.options) told) old new fault → Explains c.options.packets (WritesRun packets c c.serial told) old new fault
+  pub threaded_run : (fault : Option TopFault) → c.serial ≡ None → Explains c.options.packets (IsThreadedText packets (report_by c.options.work) c.journal (run_terms c.options) told) old new fault → Explains c.options.packets (WritesRun packets c c.serial told) old new fault
   threaded_run fault is h = subst (λ (o : Option ℕ). Explains c.options.packets (WritesRun packets c o told) old new fault) (sym is) (by_threads fault h)

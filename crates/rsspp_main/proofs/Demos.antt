@@ -1,5 +1,5 @@
 -- A run over generated traffic.
-use Rattle.std.proofs.Common.{◌≡◌, ℕ, ◌<◌, ◌≤◌, List, [], ◌∷◌, ◌++◌, length, map, take, refl, ap, subst, ◌∙◌, arith, Option, Some, length-append}
+use Rattle.std.proofs.Common.{◌≡◌, ℕ, ◌<◌, ◌≤◌, List, [], ◌∷◌, ◌++◌, length, map, take, refl, ap, subst, ◌∙◌, arith, Option, None, Some, length-append}
 use Rattle.std.specs.Prelude.{sum_by}
 use Rattle.std.proofs.lemmas.List.{take_all, length-map}
 use Rattle.std.proofs.lemmas.List.FromFn.{length-map-range_with_len}
@@ -13,7 +13,9 @@ use Rattle.pcap_reader.specs.declared.fault.Break.{Break}
 use Rattle.pcap_reader.proofs.Records.{one_reading_only}
 use Rattle.traffic_gen.specs.Capture.{captured_at, captured_from}
 use Rattle.traffic_gen.specs.Traffic.{traffic}
+use Rattle.dispatch_loop.specs.OptionsView.{OptionsView}
 use Rattle.dispatch_loop.specs.Packets.{packet_of}
+use Rattle.dispatch_loop.specs.Terms.{terms_of}
 use Rattle.command_words.specs.declared.command.Command.{Command}
 use Rattle.rsspp_run.specs.OneTable.{AreAll}
 use Rattle.rsspp_run.specs.Refused.{Refuses, Blames}
@@ -21,10 +23,9 @@ use Rattle.rsspp_run.specs.declared.run_end.RunFault.{RunFault}
 use Rattle.rsspp_run.specs.declared.run_end.RunFault.TheVariants.{Capture, ReadFault, TooMany, NoMemory}
 use Rattle.flow_report.specs.Report.{keys_of, total_line}
 use Rattle.flow_report.specs.declared.numbers.Totals.{Totals}
-use Rattle.dispatch_loop.specs.Terms.{terms_of}
 use Rattle.rsspp_main.specs.Demo.{ExplainsDemo, IsDemo, demo_line, packets_made, sum_line}
 use Rattle.rsspp_main.specs.Reports.{AreShown, run_fault}
-use Rattle.rsspp_main.specs.Run.{Ends, Untouched}
+use Rattle.rsspp_main.specs.Run.{Ends, Untouched, run_terms}
 
 module _ (count number limit : ℕ) (good : IsCapture (traffic count number) (captured_from number 0 count)) where
   records_are : (records : List Captured) (ending : Ending) → Reads (traffic count number) records ending → (records ≡ captured_from number 0 count) × (ending ≡ AtEnd)
@@ -65,15 +66,20 @@ demo_refused packets report_of c old new NoMemory good now stops blames same = s
 pub folded : (text : List ℕ) (s : Folded) → Gets (Sums (record { count = 0; value = 0 })) (Sums s) text → Sums s text
 folded text s gets = gets [] (record { count = refl; value = refl })
 
+-- which packets are shown doesn't depend on what they cost
+pub shown_by : (packets : Option (List PacketInfo)) (cost : PacketInfo → ℕ) (o : OptionsView) (all shown : List PacketInfo) → AreShown packets (terms_of cost o) all shown → AreShown packets (run_terms o) all shown
+shown_by (Some named) cost o all shown h = h
+shown_by None cost o all shown h = h
+
 -- the three lines, by what was run, counted and folded
 pub demo_shown : (packets : Option (List PacketInfo)) (report_of : List PacketInfo → List ℕ) (c : Command) (all shown : List PacketInfo) (totals : Totals) (s : Folded) → IsCapture (traffic c.count c.number) (captured_from c.number 0 c.count)
-    → AreAll c.options.packets (Some (traffic c.count c.number)) all → AreShown packets (terms_of c.options) all shown → totals ≡ record { flows = length (keys_of shown); packets = length shown; bytes = sum_by (λ p. p.original) shown }
+    → AreAll c.options.packets (Some (traffic c.count c.number)) all → AreShown packets (run_terms c.options) all shown → totals ≡ record { flows = length (keys_of shown); packets = length shown; bytes = sum_by (λ p. p.original) shown }
     → Sums s (report_of shown) → (c.count ≤ c.options.packets) × IsDemo packets report_of c (demo_line c.count c.number ++ (total_line totals.flows totals.packets totals.bytes ++ sum_line s.count s.value))
 demo_shown packets report_of c all shown totals s good whole are counted sums = (
   few c.count c.number c.options.packets good whole.0,
   (
     shown,
-    subst (λ (xs : List PacketInfo). AreShown packets (terms_of c.options) xs shown) (all_made c.count c.number c.options.packets good all whole) are,
+    subst (λ (xs : List PacketInfo). AreShown packets (run_terms c.options) xs shown) (all_made c.count c.number c.options.packets good all whole) are,
     λ i. demo_line c.count c.number ++ (total_line (counted i).flows (counted i).packets (counted i).bytes ++ sum_line (sums.count i) (sums.value i)),
   ),
 )

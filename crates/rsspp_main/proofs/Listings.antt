@@ -11,7 +11,7 @@ use Rattle.pcap_reader.specs.Stream.{MayBlame}
 use Rattle.packet_fields.specs.declared.packet.PacketInfo.{PacketInfo}
 use Rattle.toeplitz.specs.declared.key.Key.{Key}
 use Rattle.rsspp_main.specs.declared.fault.TopFault.{TopFault}
-use Rattle.rsspp_main.specs.declared.fault.TopFault.TheVariants.{Words, Capture, Line, ReadFault, WriteFault, NoMemory, TooMany}
+use Rattle.rsspp_main.specs.declared.fault.TopFault.TheVariants.{Words, Capture, Line, ReadFault, Undrawn, WriteFault, NoMemory, TooMany}
 use Rattle.rsspp_main.specs.Stops.{Accepts, MayFail, StopsWith, top_fault}
 use Rattle.rsspp_main.specs.Listing.{hash_line, listing, listing_from, IsListed, Listed, ExplainsListing}
 use Rattle.dispatch_loop.specs.Packets.{packet_of}
@@ -123,6 +123,7 @@ stopped limit text old new (Capture e) records failed s l may = (records, s, lis
 stopped limit text old new (TooMany n) records failed s l may = (records, s, listed_of old new failed (text (map packet_of records)) l, may)
 stopped limit text old new ReadFault records failed s l may = (records, s, listed_of old new failed (text (map packet_of records)) l, may)
 stopped limit text old new NoMemory records failed s l may = absurd s
+stopped limit text old new Undrawn records failed s l may = absurd s
 stopped limit text old new WriteFault records failed s l may = absurd s
 stopped limit text old new (Line k) records failed s l may = absurd s
 stopped limit text old new (Words w) records failed s l may = absurd s

@@ -14,7 +14,7 @@ use Rattle.traffic_gen.specs.Packet.{frame_of}
 use Rattle.traffic_gen.specs.Traffic.{traffic}
 use Rattle.dispatch_loop.specs.Defaults.{default_options}
 use Rattle.dispatch_loop.specs.Packets.{ArePackets, packet_of}
-use Rattle.dispatch_loop.specs.Terms.{Terms, terms_of}
+use Rattle.dispatch_loop.specs.Terms.{Terms}
 use Rattle.dispatch_loop.specs.declared.limits.TheConstants.{DEFAULT_PACKETS}
 use Rattle.rsspp_run.specs.OneTable.{AreAll}
 use Rattle.command_words.specs.Reading.{command_of}
@@ -22,11 +22,12 @@ use Rattle.command_words.specs.Words.{parts_after}
 use Rattle.command_words.specs.declared.command.Command.{Command}
 use Rattle.command_words.specs.declared.mode.Mode.TheVariants.{Report}
 use Rattle.rsspp_main.specs.declared.fault.TopFault.{TopFault}
-use Rattle.rsspp_main.specs.declared.fault.TopFault.TheVariants.{Words, Capture, Line, ReadFault, WriteFault, NoMemory, TooMany}
+use Rattle.rsspp_main.specs.declared.fault.TopFault.TheVariants.{Words, Capture, Line, ReadFault, Undrawn, WriteFault, NoMemory, TooMany}
+use Rattle.bucket_table.specs.declared.flow_hash_key.FlowHashKey.{FlowHashKey}
 use Rattle.rsspp_main.specs.declared.trace.Trace.{Trace}
 use Rattle.rsspp_main.specs.Answers.{Answers, Does, NamesRun}
 use Rattle.rsspp_main.specs.Named.{one_packet, one_packet_report, report_words}
-use Rattle.rsspp_main.specs.Run.{Ends, report_by}
+use Rattle.rsspp_main.specs.Run.{Ends, report_by, run_terms}
 use Rattle.rsspp_main.specs.Status.{status_of}
 use Rattle.rsspp_main.specs.Threads.{IsThreadedText, IsTraceOf, Tells}
 use Rattle.rsspp_main.proofs.Shown.{one_list}
@@ -63,6 +64,7 @@ not_done (Words w) e = cc
 not_done (Capture b) e = cc
 not_done (Line k) e = cc
 not_done ReadFault e = cc
+not_done Undrawn e = cc
 not_done WriteFault e = cc
 not_done NoMemory e = cc
 not_done (TooMany n) e = cc
@@ -73,24 +75,24 @@ is_told t all (Some x) run some e is = (x, refl, subst (λ (r : Trace). IsTraceO
 is_told t all None run some e is = absurd cc
 
 -- what a run that was done wrote and told
-done_by : (told : Option Trace) (old new : Ends) → old.left ≡ Some (traffic 1 0) → IsCapture (traffic 1 0) (captured_from 0 0 1) → Does (Some (one_packet ∷ [])) told Report asked old new None
-    → Gets old.may_hold new.may_hold one_packet_report × ((run : Trace) × (told ≡ Some run) × IsTraceOf (terms_of (default_options Count)) (one_packet ∷ []) run)
-done_by told old new left whole d =
+done_by : (key : FlowHashKey) (told : Option Trace) (old new : Ends) → old.left ≡ Some (traffic 1 0) → IsCapture (traffic 1 0) (captured_from 0 0 1) → Does (Some key) (Some (one_packet ∷ [])) told Report asked old new None
+    → Gets old.may_hold new.may_hold one_packet_report × ((run : Trace) × (told ≡ Some run) × IsTraceOf (run_terms (default_options Count)) (one_packet ∷ []) run)
+done_by key told old new left whole d =
     let w = d.0.0 in
-    let text : IsThreadedText (Some (one_packet ∷ [])) (report_by Count) false (terms_of (default_options Count)) told w.0 w.1 = w.3 in
+    let text : IsThreadedText (Some (one_packet ∷ [])) (report_by Count) false (run_terms (default_options Count)) told w.0 w.1 = w.3 in
     let read = subst (λ o. AreAll DEFAULT_PACKETS o w.0) left w.2.0 in
     let all_is : w.0 ≡ one_packet ∷ [] = one_list DEFAULT_PACKETS (traffic 1 0) w.0 (one_packet ∷ []) read.1 (has_one whole DEFAULT_PACKETS (omega arith)) in
     let wrote : w.1 ≡ one_packet_report = text.text_is ∙ (append-nil (report_by Count text.shown) ∙ (ap (report_by Count) (text.are_shown ∙ all_is) ∙ report_is)) in (
       subst (λ (bytes : List ℕ). Gets old.may_hold new.may_hold bytes) wrote w.4,
-      is_told (terms_of (default_options Count)) (one_packet ∷ []) told text.run d.1 text.is_told (subst (λ (ps : List PacketInfo). IsTraceOf (terms_of (default_options Count)) ps text.run) all_is text.is_run),
+      is_told (run_terms (default_options Count)) (one_packet ∷ []) told text.run d.1 text.is_told (subst (λ (ps : List PacketInfo). IsTraceOf (run_terms (default_options Count)) ps text.run) all_is text.is_run),
     )
 
-pub reported : (told : Option Trace) (words : List (List ℕ)) (old new : Ends) (fault : Option TopFault) → words ≡ report_words → old.left ≡ Some (traffic 1 0) → IsCapture (traffic 1 0) (captured_from 0 0 1)
-    → status_of fault ≡ 0 → Answers (Some (one_packet ∷ [])) told (command_of words) old new fault
-    → Gets old.may_hold new.may_hold one_packet_report × ((run : Trace) × (told ≡ Some run) × IsTraceOf (terms_of (default_options Count)) (one_packet ∷ []) run)
-reported told words old new (Some fault) ew left whole zero a = absurd (not_done fault zero)
-reported told words old new None ew left whole zero a = by_answer (rw (ew, asks) at a)
+pub reported : (key : FlowHashKey) (told : Option Trace) (words : List (List ℕ)) (old new : Ends) (fault : Option TopFault) → words ≡ report_words → old.left ≡ Some (traffic 1 0) → IsCapture (traffic 1 0) (captured_from 0 0 1)
+    → status_of fault ≡ 0 → Answers (Some key) (Some (one_packet ∷ [])) told (command_of words) old new fault
+    → Gets old.may_hold new.may_hold one_packet_report × ((run : Trace) × (told ≡ Some run) × IsTraceOf (run_terms (default_options Count)) (one_packet ∷ []) run)
+reported key told words old new (Some fault) ew left whole zero a = absurd (not_done fault zero)
+reported key told words old new None ew left whole zero a = by_answer (rw (ew, asks) at a)
   where
-    by_answer : Answers (Some (one_packet ∷ [])) told (Ok asked) old new None → Gets old.may_hold new.may_hold one_packet_report × ((run : Trace) × (told ≡ Some run) × IsTraceOf (terms_of (default_options Count)) (one_packet ∷ []) run)
+    by_answer : Answers (Some key) (Some (one_packet ∷ [])) told (Ok asked) old new None → Gets old.may_hold new.may_hold one_packet_report × ((run : Trace) × (told ≡ Some run) × IsTraceOf (run_terms (default_options Count)) (one_packet ∷ []) run)
     by_answer (inl lack) = absurd (let none = lack.0 in cc)
-    by_answer (inr d) = done_by told old new left whole d
+    by_answer (inr d) = done_by key told old new left whole d

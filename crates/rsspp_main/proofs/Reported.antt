@@ -10,6 +10,7 @@ use Rattle.rsspp_run.specs.Refused.{Refuses, Blames}
 use Rattle.rsspp_run.specs.declared.run_end.RunFault.{RunFault}
 use Rattle.rsspp_run.specs.declared.run_end.RunFault.TheVariants.{Capture, ReadFault, TooMany, NoMemory}
 use Rattle.flow_work.specs.declared.work_name.WorkName.{WorkName}
+use Rattle.flow_work.specs.Costs.{cost_by}
 use Rattle.dispatch_loop.specs.Terms.{terms_of}
 use Rattle.command_words.specs.declared.command.Command.{Command}
 use Rattle.rsspp_main.specs.declared.fault.TopFault.{TopFault}
@@ -36,10 +37,10 @@ written limit Writes old new all text report.WriteFault read writes front blames
 
 -- what is explained by the report of a work is explained by that of a command which asks for this work
 pub serial_by : (packets : Option (List PacketInfo)) (c : Command) (number : ℕ) (old new : Ends) (w : WorkName) (r : Result (Unit {0}) TopFault) → c.options.work ≡ w
-    → MatchResult r (λ _. Explains c.options.packets (IsSerialText packets (report_by w) c.journal (terms_of c.options) c.options.pool number) old new None) (λ fault. Explains c.options.packets (IsSerialText packets (report_by w) c.journal (terms_of c.options) c.options.pool number) old new (Some fault))
+    → MatchResult r (λ _. Explains c.options.packets (IsSerialText packets (report_by w) c.journal (terms_of (cost_by w) c.options) c.options.pool number) old new None) (λ fault. Explains c.options.packets (IsSerialText packets (report_by w) c.journal (terms_of (cost_by w) c.options) c.options.pool number) old new (Some fault))
     → MatchResult r (λ _. Explains c.options.packets (WritesSerial packets c number) old new None) (λ fault. Explains c.options.packets (WritesSerial packets c number) old new (Some fault))
 serial_by packets c number old new w r is h =
-    subst (λ (v : WorkName). MatchResult r (λ _. Explains c.options.packets (IsSerialText packets (report_by v) c.journal (terms_of c.options) c.options.pool number) old new None) (λ fault. Explains c.options.packets (IsSerialText packets (report_by v) c.journal (terms_of c.options) c.options.pool number) old new (Some fault))) (sym is) h
+    subst (λ (v : WorkName). MatchResult r (λ _. Explains c.options.packets (IsSerialText packets (report_by v) c.journal (terms_of (cost_by v) c.options) c.options.pool number) old new None) (λ fault. Explains c.options.packets (IsSerialText packets (report_by v) c.journal (terms_of (cost_by v) c.options) c.options.pool number) old new (Some fault))) (sym is) h
 
 pub demo_by : (packets : Option (List PacketInfo)) (c : Command) (old new : Ends) (w : WorkName) (r : Result (Unit {0}) TopFault) → c.options.work ≡ w
     → MatchResult r (λ _. ExplainsDemo packets (report_by w) c old new None) (λ fault. ExplainsDemo packets (report_by w) c old new (Some fault))
@@ -48,5 +49,5 @@ demo_by packets c old new w r is h =
     subst (λ (v : WorkName). MatchResult r (λ _. ExplainsDemo packets (report_by v) c old new None) (λ fault. ExplainsDemo packets (report_by v) c old new (Some fault))) (sym is) h
 
 -- what holds of the report of a work holds of that of a command which asks for this work
-pub by_work : (P : (List PacketInfo → List ℕ) → Type 0) (asked w : WorkName) → asked ≡ w → P (report_by w) → P (report_by asked)
-by_work P asked w is h = subst (λ (v : WorkName). P (report_by v)) (sym is) h
+pub by_work : (P : (List PacketInfo → List ℕ) → (PacketInfo → ℕ) → Type 0) (asked w : WorkName) → asked ≡ w → P (report_by w) (cost_by w) → P (report_by asked) (cost_by asked)
+by_work P asked w is h = subst (λ (v : WorkName). P (report_by v) (cost_by v)) (sym is) h

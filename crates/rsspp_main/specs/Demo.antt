@@ -9,12 +9,11 @@ use Rattle.packet_fields.specs.declared.packet.PacketInfo.{PacketInfo}
 use Rattle.flow_report.specs.Report.{keys_of, total_line}
 use Rattle.traffic_gen.specs.Capture.{captured_from}
 use Rattle.dispatch_loop.specs.Packets.{packet_of}
-use Rattle.dispatch_loop.specs.Terms.{terms_of}
 use Rattle.command_words.specs.declared.command.Command.{Command}
 use Rattle.rsspp_main.specs.declared.fault.TopFault.{TopFault}
-use Rattle.rsspp_main.specs.declared.fault.TopFault.TheVariants.{Words, Capture, Line, ReadFault, WriteFault, NoMemory, TooMany}
+use Rattle.rsspp_main.specs.declared.fault.TopFault.TheVariants.{Words, Capture, Line, ReadFault, Undrawn, WriteFault, NoMemory, TooMany}
 use Rattle.rsspp_main.specs.Reports.{AreShown}
-use Rattle.rsspp_main.specs.Run.{Ends, NoReadFailed, NoWriteFailed, Untouched}
+use Rattle.rsspp_main.specs.Run.{Ends, NoReadFailed, NoWriteFailed, Untouched, run_terms}
 
 -- the packets of a generated capture
 abbrev pub packets_made : ℕ → ℕ → List PacketInfo
@@ -40,7 +39,7 @@ demo_text count number report_of packets =
 -- the text is that of packets that the generated ones show as
 abbrev pub IsDemo : Option (List PacketInfo) → (List PacketInfo → List ℕ) → Command → List ℕ → Type 0
 IsDemo packets report_of c text =
-    (shown : List PacketInfo) × AreShown packets (terms_of c.options) (packets_made c.count c.number) shown × (text ≡ demo_text c.count c.number report_of shown)
+    (shown : List PacketInfo) × AreShown packets (run_terms c.options) (packets_made c.count c.number) shown × (text ≡ demo_text c.count c.number report_of shown)
 
 -- the source is as it was
 pub record SourceStays (old new : Ends) : Type 0 where
@@ -57,5 +56,6 @@ ExplainsDemo packets report_of c old new (Some (TooMany n)) = (n ≡ c.options.p
 ExplainsDemo packets report_of c old new (Some NoMemory) = Untouched old new
 ExplainsDemo packets report_of c old new (Some (Capture e)) = ⊥
 ExplainsDemo packets report_of c old new (Some ReadFault) = ⊥
+ExplainsDemo packets report_of c old new (Some Undrawn) = ⊥
 ExplainsDemo packets report_of c old new (Some (Line k)) = ⊥
 ExplainsDemo packets report_of c old new (Some (Words w)) = ⊥

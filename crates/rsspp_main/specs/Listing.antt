@@ -11,7 +11,7 @@ use Rattle.packet_fields.specs.KeyText.{key_text_of}
 use Rattle.toeplitz.specs.declared.key.Key.{Key}
 use Rattle.toeplitz.specs.Packet.{packet_hash}
 use Rattle.rsspp_main.specs.declared.fault.TopFault.{TopFault}
-use Rattle.rsspp_main.specs.declared.fault.TopFault.TheVariants.{Words, Capture, Line, ReadFault, WriteFault, NoMemory, TooMany}
+use Rattle.rsspp_main.specs.declared.fault.TopFault.TheVariants.{Words, Capture, Line, ReadFault, Undrawn, WriteFault, NoMemory, TooMany}
 use Rattle.rsspp_main.specs.Stops.{Accepts, StopsWith}
 use Rattle.dispatch_loop.specs.Stops.{GoesOn}
 use Rattle.dispatch_loop.specs.Packets.{packet_of}
@@ -64,5 +64,6 @@ ExplainsListing limit text old new (Some WriteFault) =
 ExplainsListing limit text old new (Some NoMemory) =
     Untouched old new
     ⊎ ((records : List Captured) × (length records < limit) × GoesOn old.left new.left records × Gets old.may_hold new.may_hold (text (map packet_of records)) × NoCallFailed old new)
+ExplainsListing limit text old new (Some Undrawn) = ⊥
 ExplainsListing limit text old new (Some (Line k)) = ⊥
 ExplainsListing limit text old new (Some (Words w)) = ⊥

@@ -10,7 +10,7 @@ use Rattle.command_words.specs.declared.word_fault.WordFault.{WordFault}
 use Rattle.command_words.specs.declared.word_fault.WordFault.TheVariants as word
 use Rattle.command_words.specs.Words.{dashed, option_text}
 use Rattle.rsspp_main.specs.declared.fault.TopFault.{TopFault}
-use Rattle.rsspp_main.specs.declared.fault.TopFault.TheVariants.{Words, Capture, Line, ReadFault, WriteFault, NoMemory, TooMany}
+use Rattle.rsspp_main.specs.declared.fault.TopFault.TheVariants.{Words, Capture, Line, ReadFault, Undrawn, WriteFault, NoMemory, TooMany}
 
 -- the line of a capture that is refused
 abbrev pub break_line : Break → List ℕ
@@ -37,6 +37,7 @@ line_of (Words w) = word_line w
 line_of (Capture e) = break_line e
 line_of (Line k) = codes "rsspp: plan refused: line " ++ (decimal k ++ 10 ∷ [])
 line_of ReadFault = codes "rsspp: read fault" ++ 10 ∷ []
+line_of Undrawn = codes "rsspp: read fault" ++ 10 ∷ []
 line_of WriteFault = codes "rsspp: write fault" ++ 10 ∷ []
 line_of NoMemory = codes "rsspp: want of memory" ++ 10 ∷ []
 line_of (TooMany n) = codes "rsspp: more than " ++ (decimal n ++ (codes " packets" ++ 10 ∷ []))

@@ -12,7 +12,7 @@ use Rattle.bucket_table.specs.declared.custody.Custody.{Custody}
 use Rattle.bucket_table.specs.Table.{TableOf}
 use Rattle.flow_report.specs.JournalText.{HasWholeRounds, journal_bytes}
 use Rattle.flow_report.specs.Tables.{SharesNoKey}
-use Rattle.dispatch_loop.specs.Terms.{Terms, buckets_of, terms_of}
+use Rattle.dispatch_loop.specs.Terms.{Terms, buckets_of}
 use Rattle.rsspp_run.specs.Ends.{IsSerialRun}
 use Rattle.rsspp_run.specs.declared.run_end.RunFault.{RunFault}
 use Rattle.rsspp_run.specs.declared.run_end.RunFault.TheVariants as running
@@ -21,7 +21,7 @@ use Rattle.flow_report.specs.declared.fault.ReportFault.TheVariants as writing
 use Rattle.command_words.specs.declared.command.Command.{Command}
 use Rattle.rsspp_main.specs.declared.fault.TopFault.{TopFault}
 use Rattle.rsspp_main.specs.declared.fault.TopFault.TheVariants.{Capture, ReadFault, WriteFault, NoMemory, TooMany}
-use Rattle.rsspp_main.specs.Run.{report_by}
+use Rattle.rsspp_main.specs.Run.{report_by, run_terms}
 
 -- the bucket of a flow, of so many buckets
 abbrev pub bucket_by : Key → ℕ → FlowKey → ℕ
@@ -56,7 +56,7 @@ pub record IsSerialText (packets : Option (List PacketInfo)) (report_of : List P
 
 -- what a command writes of all packets by the serial run under a number
 abbrev pub WritesSerial : Option (List PacketInfo) → Command → ℕ → List PacketInfo → List ℕ → Type 0
-WritesSerial packets c number all text = IsSerialText packets (report_by c.options.work) c.journal (terms_of c.options) c.options.pool number all text
+WritesSerial packets c number all text = IsSerialText packets (report_by c.options.work) c.journal (run_terms c.options) c.options.pool number all text
 
 -- a fault of a run, and of a report, as the fault of the whole
 abbrev pub run_fault : RunFault → TopFault

@@ -11,8 +11,11 @@ use Rattle.flow_work.specs.Gaps.{no_gap, gap_after, gap_text}
 use Rattle.flow_work.specs.OrderFold.{folded, order_text}
 use Rattle.flow_work.specs.declared.work_name.WorkName.{WorkName}
 use Rattle.flow_work.specs.declared.work_name.WorkName.TheVariants.{Count, TcpFlags, Gaps, OrderFold}
+use Rattle.flow_work.specs.Costs.{cost_by}
+use Rattle.dispatch_loop.specs.OptionsView.{OptionsView}
+use Rattle.dispatch_loop.specs.Terms.{Terms, terms_of}
 use Rattle.rsspp_main.specs.declared.fault.TopFault.{TopFault}
-use Rattle.rsspp_main.specs.declared.fault.TopFault.TheVariants.{Words, Capture, Line, ReadFault, WriteFault, NoMemory, TooMany}
+use Rattle.rsspp_main.specs.declared.fault.TopFault.TheVariants.{Words, Capture, Line, ReadFault, Undrawn, WriteFault, NoMemory, TooMany}
 use Rattle.rsspp_run.specs.OneTable.{AreAll}
 use Rattle.rsspp_main.specs.Stops.{StopsWith}
 use Rattle.flow_report.specs.Report.{report}
@@ -78,6 +81,7 @@ Explains limit Writes old new (Some NoMemory) =
     Untouched old new
     ⊎ (((all : List PacketInfo) × HasRead limit old new all × Silent old new × NoCallFailed old new)
     ⊎ (WroteFront limit Writes old new × NoCallFailed old new))
+Explains limit Writes old new (Some Undrawn) = ⊥
 Explains limit Writes old new (Some (Line k)) = ⊥
 Explains limit Writes old new (Some (Words w)) = ⊥
 
@@ -88,6 +92,7 @@ ExplainsText text old new (Some WriteFault) = GetsFront old.may_hold new.may_hol
 ExplainsText text old new (Some (Capture e)) = ⊥
 ExplainsText text old new (Some (TooMany n)) = ⊥
 ExplainsText text old new (Some ReadFault) = ⊥
+ExplainsText text old new (Some Undrawn) = ⊥
 ExplainsText text old new (Some NoMemory) = ⊥
 ExplainsText text old new (Some (Line k)) = ⊥
 ExplainsText text old new (Some (Words w)) = ⊥
@@ -98,3 +103,7 @@ report_by Count packets = report no_packets counted count_text packets
 report_by TcpFlags packets = report no_flags flags_after flags_text packets
 report_by Gaps packets = report no_gap gap_after gap_text packets
 report_by OrderFold packets = report 0 folded order_text packets
+
+-- the terms of a run by the options and the work that they name
+abbrev pub run_terms : OptionsView → Terms
+run_terms o = terms_of (cost_by o.work) o

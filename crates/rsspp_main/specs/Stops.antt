@@ -7,7 +7,7 @@ use Rattle.pcap_reader.specs.Capture.{Captured, IsCapture}
 use Rattle.dispatch_loop.specs.declared.dispatcher_end.DispatcherEnd.TheVariants as end
 use Rattle.dispatch_loop.specs.Stops.{StopsBy}
 use Rattle.rsspp_main.specs.declared.fault.TopFault.{TopFault}
-use Rattle.rsspp_main.specs.declared.fault.TopFault.TheVariants.{Words, Capture, Line, ReadFault, WriteFault, NoMemory, TooMany}
+use Rattle.rsspp_main.specs.declared.fault.TopFault.TheVariants.{Words, Capture, Line, ReadFault, Undrawn, WriteFault, NoMemory, TooMany}
 
 -- the error of a reader, as the fault of the whole
 abbrev pub top_fault : ReadError → TopFault
@@ -25,6 +25,7 @@ StopsWith limit left now records (Capture e) = StopsBy limit left now records (e
 StopsWith limit left now records (TooMany n) = StopsBy limit left now records (end.TooMany n)
 StopsWith limit left now records ReadFault = StopsBy limit left now records (end.Refused reading.ReadFault)
 StopsWith limit left now records NoMemory = ⊥
+StopsWith limit left now records Undrawn = ⊥
 StopsWith limit left now records WriteFault = ⊥
 StopsWith limit left now records (Line k) = ⊥
 StopsWith limit left now records (Words w) = ⊥

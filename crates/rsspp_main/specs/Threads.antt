@@ -1,14 +1,14 @@
 -- What a run in threads writes, and what its trace tells.
 use Rattle.std.specs.Prelude.{◌≡◌, ℕ, List, ◌++◌, Bool, Option, None, Some, IfSome, IsSome}
 use Rattle.packet_fields.specs.declared.packet.PacketInfo.{PacketInfo}
-use Rattle.dispatch_loop.specs.Terms.{Terms, terms_of}
+use Rattle.dispatch_loop.specs.Terms.{Terms}
 use Rattle.threaded_run.specs.Threaded.{IsThreadedRun}
 use Rattle.command_words.specs.declared.command.Command.{Command}
 use Rattle.rsspp_main.specs.declared.fault.TopFault.{TopFault}
 use Rattle.rsspp_main.specs.declared.trace.Trace.{Trace}
 use Rattle.rsspp_main.specs.Demo.{packets_made}
 use Rattle.rsspp_main.specs.Reports.{AreShown, WritesSerial, journal_part}
-use Rattle.rsspp_main.specs.Run.{report_by}
+use Rattle.rsspp_main.specs.Run.{report_by, run_terms}
 
 -- the trace is that of a run in threads over all these packets: its journal is lawful, its notes have the cores' streams by that journal, and its custodies are that journal's
 abbrev pub IsTraceOf : Terms → List PacketInfo → Trace → Type 0
@@ -31,7 +31,7 @@ pub record IsThreadedText (packets : Option (List PacketInfo)) (report_of : List
 -- what a command writes of all packets: by the serial run under a number, where it names one, and else by a run in threads
 abbrev pub WritesRun : Option (List PacketInfo) → Command → Option ℕ → Option Trace → List PacketInfo → List ℕ → Type 0
 WritesRun packets c (Some number) told all text = WritesSerial packets c number all text
-WritesRun packets c None told all text = IsThreadedText packets (report_by c.options.work) c.journal (terms_of c.options) told all text
+WritesRun packets c None told all text = IsThreadedText packets (report_by c.options.work) c.journal (run_terms c.options) told all text
 
 -- a run is told exactly where it was in threads and was done
 abbrev pub IsTold : Option ℕ → Option TopFault → Option Trace → Type 0
@@ -41,4 +41,4 @@ IsTold None (Some fault) told = told ≡ None
 
 -- a run over generated traffic that is told is one over its packets
 abbrev pub ToldOfDemo : Command → Option Trace → Type 0
-ToldOfDemo c told = IfSome told (IsTraceOf (terms_of c.options) (packets_made c.count c.number))
+ToldOfDemo c told = IfSome told (IsTraceOf (run_terms c.options) (packets_made c.count c.number))

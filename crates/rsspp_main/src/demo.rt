@@ -20,6 +20,7 @@ ghost use Rattle.rsspp_main.specs.Threads.{IsTraceOf};
 use crate::serial::{fault_of_report, fault_of_run, run_to_report, work_of};
 use crate::threaded::{threads_to_report, trace_of};
 use crate::{TopFault, Trace};
+use bucket_table::FlowHashKey;
 use command_words::Command;
 use flow_report::sums::totals;
 use flow_report::{Totals, report};
@@ -122,7 +123,7 @@ fn tell_demo<W: FlowWork, K: Sink>(
     requires few { command.now.count ≤ MOST_RECORDS }
     ensures outcome { (packets : Option (List PacketInfo)) (all shown : List PacketInfo) (bucket_of : FlowKey → ℕ)
         → AreAll command.now.options.packets (Some (traffic command.now.count command.now.number)) all
-        → AreShown packets (terms_of command.now.options) all shown
+        → AreShown packets (commands.run_terms command.now.options) all shown
         → StandTogether W.opening W.after bucket_of shown end.now.tables.items
         → (left : Option (List ℕ)) (reads : ℕ) → let before = ends left reads (K.faults out.old) (K.may_hold out.old) in
         let now = ends left reads (K.faults out.new) (K.may_hold out.new) in
@@ -145,6 +146,7 @@ fn tell_demo<W: FlowWork, K: Sink>(
 fn demo_by<N: RunName, W: FlowWork, K: Sink>(
     alloc: Global,
     command: &Command,
+    hashing: &FlowHashKey,
     work: &W,
     number: u32,
     out: &mut K,
@@ -160,7 +162,7 @@ fn demo_by<N: RunName, W: FlowWork, K: Sink>(
     good_capture();
     let mut source = TrafficSource::new(command.count, command.number);
     let options = &command.options;
-    match run_to_report::<N, _, W>(alloc, options, work, &mut source, number) {
+    match run_to_report::<N, _, W>(alloc, options, hashing, work, &mut source, number) {
         Ok(end) => tell_demo::<W, K>(alloc, command, work, &end, out),
         Err(fault) => Err(fault_of_run(fault)),
     }
@@ -177,6 +179,7 @@ fn threaded_demo_by<
     rt: &R,
     alloc: Global,
     command: &Command,
+    hashing: &FlowHashKey,
     work: &W,
     out: &mut K,
     gate: &G,
@@ -188,7 +191,7 @@ fn threaded_demo_by<
         let now = ends left reads (K.faults out.new) (K.may_hold out.new) in
         let explains = ExplainsDemo N.packets (report W.opening W.after W.line_text) command.now before now in
         MatchResult result (λ _. explains None) (λ fault. explains (Some fault)) }
-    ensures trace { IfOk result (IsTraceOf (terms_of command.now.options) (packets_made command.now.count command.now.number)) }
+    ensures trace { IfOk result (IsTraceOf (terms_of W.cost_of command.now.options) (packets_made command.now.count command.now.number)) }
 {
     good_capture();
     let mut traffic = TrafficSource::new(command.count, command.number);
@@ -197,6 +200,7 @@ fn threaded_demo_by<
         rt,
         alloc,
         options,
+        hashing,
         work,
         &mut traffic,
         gate,
@@ -218,7 +222,14 @@ pub fn threaded_demo<
     K: Sink,
     G: Gate + Sync,
     R: Threads + Wait + Sync,
->(rt: &R, alloc: Global, command: &Command, out: &mut K, gate: &G) -> Result<Trace, TopFault>
+>(
+    rt: &R,
+    alloc: Global,
+    command: &Command,
+    hashing: &FlowHashKey,
+    out: &mut K,
+    gate: &G,
+) -> Result<Trace, TopFault>
     requires accepted { IsAccepted command.now.options }
     requires few { command.now.count ≤ MOST_RECORDS }
     requires named { AreNamed N.packets command.now.options.packets (Some (traffic command.now.count command.now.number)) }
@@ -226,20 +237,24 @@ pub fn threaded_demo<
         let now = ends left reads (K.faults out.new) (K.may_hold out.new) in
         let explains = ExplainsDemo N.packets (commands.report_by command.now.options.work) command.now before now in
         MatchResult result (λ _. explains None) (λ fault. explains (Some fault)) }
-    ensures trace { IfOk result (IsTraceOf (terms_of command.now.options) (packets_made command.now.count command.now.number)) }
+    ensures trace { IfOk result (IsTraceOf (commands.run_terms command.now.options) (packets_made command.now.count command.now.number)) }
 {
     match work_of(&command.options) {
         WorkName::Count => {
-            threaded_demo_by::<N, Count, K, G, R>(rt, alloc, command, &Count, out, gate)
+            threaded_demo_by::<N, Count, K, G, R>(rt, alloc, command, hashing, &Count, out, gate)
         }
         WorkName::TcpFlags => {
-            threaded_demo_by::<N, TcpFlags, K, G, R>(rt, alloc, command, &TcpFlags, out, gate)
+            threaded_demo_by::<N, TcpFlags, K, G, R>(
+                rt, alloc, command, hashing, &TcpFlags, out, gate,
+            )
         }
         WorkName::Gaps => {
-            threaded_demo_by::<N, Gaps, K, G, R>(rt, alloc, command, &Gaps, out, gate)
+            threaded_demo_by::<N, Gaps, K, G, R>(rt, alloc, command, hashing, &Gaps, out, gate)
         }
         WorkName::OrderFold => {
-            threaded_demo_by::<N, OrderFold, K, G, R>(rt, alloc, command, &OrderFold, out, gate)
+            threaded_demo_by::<N, OrderFold, K, G, R>(
+                rt, alloc, command, hashing, &OrderFold, out, gate,
+            )
         }
     }
 }
@@ -250,6 +265,7 @@ pub fn threaded_demo<
 pub fn serial_demo<N: RunName, K: Sink>(
     alloc: Global,
     command: &Command,
+    hashing: &FlowHashKey,
     number: u32,
     out: &mut K,
 ) -> Result<(), TopFault>
@@ -263,9 +279,9 @@ pub fn serial_demo<N: RunName, K: Sink>(
         MatchResult result (λ _. explains None) (λ fault. explains (Some fault)) }
 {
     match work_of(&command.options) {
-        WorkName::Count => demo_by::<N, _, K>(alloc, command, &Count, number, out),
-        WorkName::TcpFlags => demo_by::<N, _, K>(alloc, command, &TcpFlags, number, out),
-        WorkName::Gaps => demo_by::<N, _, K>(alloc, command, &Gaps, number, out),
-        WorkName::OrderFold => demo_by::<N, _, K>(alloc, command, &OrderFold, number, out),
+        WorkName::Count => demo_by::<N, _, K>(alloc, command, hashing, &Count, number, out),
+        WorkName::TcpFlags => demo_by::<N, _, K>(alloc, command, hashing, &TcpFlags, number, out),
+        WorkName::Gaps => demo_by::<N, _, K>(alloc, command, hashing, &Gaps, number, out),
+        WorkName::OrderFold => demo_by::<N, _, K>(alloc, command, hashing, &OrderFold, number, out),
     }
 }

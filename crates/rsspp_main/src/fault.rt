@@ -15,6 +15,8 @@ pub enum TopFault {
     Line { line: u32 },
     /// The source failed to read.
     ReadFault,
+    /// The random numbers that flow tables hash by could not be drawn.
+    Undrawn,
     /// The output failed to be written.
     WriteFault,
     /// Memory was refused.
@@ -25,7 +27,8 @@ pub enum TopFault {
 
 impl TopFault {
     /// The status that the program ends with: 2 for words, 3 for a capture or a plan text, 4
-    /// for a failed read, 5 for a failed write, 6 for memory, 7 for too many packets.
+    /// for a failed read, also that of random numbers, 5 for a failed write, 6 for memory, 7 for too
+    /// many packets.
     pub fn status(&self) -> u8
         ensures { result ≡ status_of (Some self.now) }
     {
@@ -34,6 +37,7 @@ impl TopFault {
             TopFault::Capture(_) => 3,
             TopFault::Line { line: _ } => 3,
             TopFault::ReadFault => 4,
+            TopFault::Undrawn => 4,
             TopFault::WriteFault => 5,
             TopFault::NoMemory => 6,
             TopFault::TooMany { limit: _ } => 7,

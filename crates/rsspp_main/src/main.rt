@@ -18,6 +18,7 @@ mod threaded;
 mod top;
 mod trace;
 
+use bucket_table::{FLOW_HASH_KEY_BYTES, FlowHashKey};
 pub use command_words::{Command, Mode, OptionName, WordFault, read_words};
 pub use demo::serial_demo;
 pub use fault::TopFault;
@@ -31,6 +32,7 @@ pub use serial::serial_report;
 use std::env;
 use std::io::{self, BufWriter};
 use std::process::ExitCode;
+use std::random::RandomSource;
 use std::sync::Wait;
 use std::thread::Threads;
 pub use threaded::threaded_report;
@@ -46,6 +48,15 @@ fn words_of(rt: &HostRuntime) -> io::Result<Vec<String>> {
     Ok(words)
 }
 
+// The numbers that flow tables hash by, drawn anew, if they can be.
+fn drawn(rt: &impl RandomSource) -> Option<FlowHashKey> {
+    let mut bytes = [0; FLOW_HASH_KEY_BYTES];
+    match rt.fill_bytes(&mut bytes) {
+        Ok(()) => Some(FlowHashKey::from_bytes(&bytes)),
+        Err(_) => None,
+    }
+}
+
 // The status of a run over standard input, output and error. The runtime is the host's, which may
 // start threads. Output is written in large pieces,
 // so the last of them may fail after the run.
@@ -59,6 +70,7 @@ fn status<R: Threads + Wait + Sync>(host: &HostRuntime, rt: &R) -> io::Result<u8
         rt,
         alloc,
         &words,
+        drawn(host),
         &mut source,
         &mut out,
         &mut notes,

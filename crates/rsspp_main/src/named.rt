@@ -4,12 +4,13 @@ ghost use Rattle.std.specs.String.{string_bytes};
 ghost use Rattle.flow_work.specs.declared.work_name.WorkName.TheVariants.{Count};
 ghost use Rattle.traffic_gen.specs.Traffic.{traffic};
 ghost use Rattle.dispatch_loop.specs.Defaults.{default_options};
-ghost use Rattle.dispatch_loop.specs.Terms.{terms_of};
+ghost use Rattle.rsspp_main.specs.Run.{run_terms};
 ghost use Rattle.rsspp_main.specs.declared.trace.Trace.{Trace};
 ghost use Rattle.rsspp_main.specs.Named.{one_packet, one_packet_report, report_words};
 ghost use Rattle.rsspp_main.specs.Threads.{IsTraceOf};
 
 use crate::{Answer, rsspp};
+use bucket_table::FlowHashKey;
 use packet_fields::RunName;
 use rss_base::{MemorySink, MemorySource, OpenGate};
 use std::alloc::Global;
@@ -35,6 +36,7 @@ pub fn report_one_packet<R: Threads + Wait + Sync>(
     rt: &R,
     alloc: Global,
     words: &[String],
+    hashing: &FlowHashKey,
     source: &mut MemorySource,
     out: &mut MemorySink,
     notes: &mut MemorySink,
@@ -42,8 +44,17 @@ pub fn report_one_packet<R: Threads + Wait + Sync>(
     requires words { map string_bytes words.now ≡ report_words }
     requires capture { drop source.old.given source.old.all ≡ traffic 1 0 }
     ensures report { result.status ≡ 0 → out.new.bytes ≡ out.old.bytes ++ one_packet_report }
-    ensures trace { result.status ≡ 0 → (run : Trace) × (result.trace ≡ Some run) × IsTraceOf (terms_of (default_options Count)) (one_packet ∷ []) run }
+    ensures trace { result.status ≡ 0 → (run : Trace) × (result.trace ≡ Some run) × IsTraceOf (run_terms (default_options Count)) (one_packet ∷ []) run }
 {
     good_capture();
-    rsspp::<OnePacket, _, _, _, _, _>(rt, alloc, words, source, out, notes, &OpenGate)
+    rsspp::<OnePacket, _, _, _, _, _>(
+        rt,
+        alloc,
+        words,
+        Some(*hashing),
+        source,
+        out,
+        notes,
+        &OpenGate,
+    )
 }

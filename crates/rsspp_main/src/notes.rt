@@ -113,6 +113,7 @@ pub fn fault_line<F: Sink>(fault: &TopFault, notes: &mut F) -> Result<(), Failed
             ],
         ),
         TopFault::ReadFault => write_pieces(notes, &[Piece::Bytes(b"rsspp: read fault\n")]),
+        TopFault::Undrawn => write_pieces(notes, &[Piece::Bytes(b"rsspp: read fault\n")]),
         TopFault::WriteFault => write_pieces(notes, &[Piece::Bytes(b"rsspp: write fault\n")]),
         TopFault::NoMemory => write_pieces(notes, &[Piece::Bytes(b"rsspp: want of memory\n")]),
         TopFault::TooMany { limit } => write_pieces(

@@ -18,7 +18,7 @@ ghost use Rattle.rsspp_main.specs.Reports.{AreShown, IsReportable, IsSerialText,
 ghost use Rattle.rsspp_main.specs.Run.{ends, Explains};
 
 use crate::TopFault;
-use bucket_table::Custody;
+use bucket_table::{Custody, FlowHashKey};
 use command_words::Command;
 use dispatch_loop::Options;
 use flow_report::{ReportFault, journal_text, report, standing_tables};
@@ -56,6 +56,7 @@ pub fn fault_of_report(fault: ReportFault) -> TopFault
 pub fn run_to_report<N: RunName, S: Source, W: FlowWork>(
     alloc: Global,
     options: &Options,
+    hashing: &FlowHashKey,
     work: &W,
     source: &mut S,
     number: u32,
@@ -63,8 +64,8 @@ pub fn run_to_report<N: RunName, S: Source, W: FlowWork>(
     requires accepted { IsAccepted options.now }
     requires named { AreNamed N.packets options.now.packets (S.left source.old) }
     ensures run { IfOk result (λ end. (all : List PacketInfo) × AreAll options.now.packets (S.left source.old) all
-        × IsSerialRun (terms_of options.now) options.now.pool number all end.journal end.custody.items end.worked.items
-        × (shown : List PacketInfo) × AreShown N.packets (terms_of options.now) all shown
+        × IsSerialRun (terms_of W.cost_of options.now) options.now.pool number all end.journal end.custody.items end.worked.items
+        × (shown : List PacketInfo) × AreShown N.packets (terms_of W.cost_of options.now) all shown
         × StandTogether W.opening W.after (bucket_by options.now.key (length options.now.start.owners)) shown end.tables.items) }
     ensures ready { IfOk result (λ end. IsReportable end.tables.items end.journal.entries) }
     ensures end { OnOk result (IsAtEnd (S.left source.new)) }
@@ -76,7 +77,7 @@ pub fn run_to_report<N: RunName, S: Source, W: FlowWork>(
 {
     standing_tables::<W>();
     tables_share_the_packets::<W>();
-    run_serial::<N, S, W>(alloc, options, work, source, number)
+    run_serial::<N, S, W>(alloc, options, hashing, work, source, number)
 }
 
 // Writes the journal and the custody of a run, where they are asked for.
@@ -125,6 +126,7 @@ pub fn write_run<W: FlowWork, K: Sink>(
 fn report_by<N: RunName, S: Source, W: FlowWork, K: Sink>(
     alloc: Global,
     command: &Command,
+    hashing: &FlowHashKey,
     work: &W,
     number: u32,
     source: &mut S,
@@ -135,12 +137,19 @@ fn report_by<N: RunName, S: Source, W: FlowWork, K: Sink>(
     ensures outcome { let before = ends (S.left source.old) (S.faults source.old) (K.faults out.old) (K.may_hold out.old) in
         let now = ends (S.left source.new) (S.faults source.new) (K.faults out.new) (K.may_hold out.new) in
         let options = command.now.options in
-        let writes = IsSerialText N.packets (report W.opening W.after W.line_text) command.now.journal (terms_of options) options.pool number in
+        let writes = IsSerialText N.packets (report W.opening W.after W.line_text) command.now.journal (terms_of W.cost_of options) options.pool number in
         let explains = Explains options.packets writes before now in
         MatchResult result (λ _. explains None) (λ fault. explains (Some fault)) }
     ensures origin { S.origin source.new ≡ S.origin source.old }
 {
-    let end = match run_to_report::<N, S, W>(alloc, &command.options, work, source, number) {
+    let end = match run_to_report::<N, S, W>(
+        alloc,
+        &command.options,
+        hashing,
+        work,
+        source,
+        number,
+    ) {
         Ok(end) => end,
         Err(fault) => return Err(fault_of_run(fault)),
     };
@@ -163,6 +172,7 @@ pub fn work_of(options: &Options) -> WorkName
 pub fn serial_report<N: RunName, S: Source, K: Sink>(
     alloc: Global,
     command: &Command,
+    hashing: &FlowHashKey,
     number: u32,
     source: &mut S,
     out: &mut K,
@@ -176,13 +186,19 @@ pub fn serial_report<N: RunName, S: Source, K: Sink>(
     ensures origin { S.origin source.new ≡ S.origin source.old }
 {
     match work_of(&command.options) {
-        WorkName::Count => report_by::<N, S, Count, K>(alloc, command, &Count, number, source, out),
+        WorkName::Count => report_by::<N, S, Count, K>(
+            alloc, command, hashing, &Count, number, source, out,
+        ),
         WorkName::TcpFlags => {
-            report_by::<N, S, TcpFlags, K>(alloc, command, &TcpFlags, number, source, out)
+            report_by::<N, S, TcpFlags, K>(alloc, command, hashing, &TcpFlags, number, source, out)
         }
-        WorkName::Gaps => report_by::<N, S, Gaps, K>(alloc, command, &Gaps, number, source, out),
+        WorkName::Gaps => report_by::<N, S, Gaps, K>(
+            alloc, command, hashing, &Gaps, number, source, out,
+        ),
         WorkName::OrderFold => {
-            report_by::<N, S, OrderFold, K>(alloc, command, &OrderFold, number, source, out)
+            report_by::<N, S, OrderFold, K>(
+                alloc, command, hashing, &OrderFold, number, source, out,
+            )
         }
     }
 }

@@ -5,6 +5,7 @@ mod faults;
 mod flows;
 mod forms;
 mod gates;
+mod hash_keys;
 mod hashes;
 mod ipv6;
 mod journals;
@@ -20,6 +21,7 @@ mod words;
 mod works;
 
 use crate::rsspp;
+use bucket_table::{FLOW_HASH_KEY_BYTES, FlowHashKey};
 use packet_fields::NoName;
 use rss_base::{Gate, MemorySink, MemorySource, OpenGate};
 use std::alloc::Global;
@@ -54,6 +56,11 @@ pub const WHOLE: Ends = Ends {
     failing_note: 0,
 };
 
+/// Numbers to hash by, which everybody knows.
+pub fn hashing(byte: u8) -> FlowHashKey {
+    FlowHashKey::from_bytes(&[byte; FLOW_HASH_KEY_BYTES])
+}
+
 // The words as texts of their own.
 fn owned(alloc: Global, words: &[&str]) -> Result<Vec<String>, Fail> {
     let mut owned = Vec::new(alloc);
@@ -71,7 +78,34 @@ pub fn run<R: Threads + Wait + Sync>(
     capture: &[u8],
     ends: Ends,
 ) -> Result<Ran, Fail> {
-    run_with(rt, alloc, &owned(alloc, words)?, capture, ends, &OpenGate)
+    run_with(
+        rt,
+        alloc,
+        &owned(alloc, words)?,
+        Some(hashing(7)),
+        capture,
+        ends,
+        &OpenGate,
+    )
+}
+
+/// Runs the program with these words over a capture, with these numbers to hash by, or none.
+pub fn run_hashing<R: Threads + Wait + Sync>(
+    rt: &R,
+    alloc: Global,
+    words: &[&str],
+    hashing: Option<FlowHashKey>,
+    capture: &[u8],
+) -> Result<Ran, Fail> {
+    run_with(
+        rt,
+        alloc,
+        &owned(alloc, words)?,
+        hashing,
+        capture,
+        WHOLE,
+        &OpenGate,
+    )
 }
 
 /// Runs the program on one thread under a number, with these words besides, over a capture.
@@ -85,7 +119,7 @@ pub fn run_under<R: Threads + Wait + Sync>(
     let mut all = owned(alloc, words)?;
     all.push(String::from_str(alloc, "--serial")?)?;
     all.push(format!(in alloc; "{number}")?)?;
-    run_with(rt, alloc, &all, capture, WHOLE, &OpenGate)
+    run_with(rt, alloc, &all, Some(hashing(7)), capture, WHOLE, &OpenGate)
 }
 
 /// Runs the program over a capture, with a gate before each packet of a worker.
@@ -96,13 +130,22 @@ pub fn run_at<G: Gate + Sync, R: Threads + Wait + Sync>(
     capture: &[u8],
     gate: &G,
 ) -> Result<Ran, Fail> {
-    run_with(rt, alloc, &owned(alloc, words)?, capture, WHOLE, gate)
+    run_with(
+        rt,
+        alloc,
+        &owned(alloc, words)?,
+        Some(hashing(7)),
+        capture,
+        WHOLE,
+        gate,
+    )
 }
 
 fn run_with<G: Gate + Sync, R: Threads + Wait + Sync>(
     rt: &R,
     alloc: Global,
     words: &[String],
+    hashing: Option<FlowHashKey>,
     capture: &[u8],
     ends: Ends,
     gate: &G,
@@ -118,6 +161,7 @@ fn run_with<G: Gate + Sync, R: Threads + Wait + Sync>(
         rt,
         alloc,
         words,
+        hashing,
         &mut source,
         &mut out,
         &mut notes,

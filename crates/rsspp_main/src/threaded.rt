@@ -17,6 +17,7 @@ ghost use Rattle.rsspp_main.specs.Threads.{IsThreadedText};
 
 use crate::serial::{fault_of_report, fault_of_run, work_of, write_run};
 use crate::{TopFault, Trace};
+use bucket_table::FlowHashKey;
 use command_words::Command;
 use dispatch_loop::Options;
 use flow_report::standing_tables;
@@ -41,6 +42,7 @@ pub fn threads_to_report<
     rt: &R,
     alloc: Global,
     options: &Options,
+    hashing: &FlowHashKey,
     work: &W,
     source: &mut S,
     gate: &G,
@@ -48,8 +50,8 @@ pub fn threads_to_report<
     requires accepted { IsAccepted options.now }
     requires named { AreNamed N.packets options.now.packets (S.left source.old) }
     ensures run { IfOk result (λ end. (all : List PacketInfo) × AreAll options.now.packets (S.left source.old) all
-        × IsThreadedRun (terms_of options.now) all end.journal end.custody.items end.worked.items end.notes.items end.shelf
-        × (shown : List PacketInfo) × AreShown N.packets (terms_of options.now) all shown
+        × IsThreadedRun (terms_of W.cost_of options.now) all end.journal end.custody.items end.worked.items end.notes.items end.shelf
+        × (shown : List PacketInfo) × AreShown N.packets (terms_of W.cost_of options.now) all shown
         × StandTogether W.opening W.after (bucket_by options.now.key (length options.now.start.owners)) shown end.tables.items) }
     ensures ready { IfOk result (λ end. IsReportable end.tables.items end.journal.entries) }
     ensures shelf { IfOk result (λ end. IsSome end.shelf) }
@@ -62,7 +64,7 @@ pub fn threads_to_report<
 {
     standing_tables::<W>();
     tables_share_the_packets::<W>();
-    run_threads::<N, S, W, G, R>(rt, alloc, options, work, source, gate)
+    run_threads::<N, S, W, G, R>(rt, alloc, options, hashing, work, source, gate)
 }
 
 /// What a run in threads leaves beside its tables.
@@ -106,6 +108,7 @@ fn threaded_by<
     rt: &R,
     alloc: Global,
     command: &Command,
+    hashing: &FlowHashKey,
     work: &W,
     source: &mut S,
     out: &mut K,
@@ -116,7 +119,7 @@ fn threaded_by<
     ensures outcome { let before = ends (S.left source.old) (S.faults source.old) (K.faults out.old) (K.may_hold out.old) in
         let now = ends (S.left source.new) (S.faults source.new) (K.faults out.new) (K.may_hold out.new) in
         let options = command.now.options in
-        let writes = IsThreadedText N.packets (report W.opening W.after W.line_text) command.now.journal (terms_of options) in
+        let writes = IsThreadedText N.packets (report W.opening W.after W.line_text) command.now.journal (terms_of W.cost_of options) in
         MatchResult result (λ run. Explains options.packets (writes (Some run)) before now None) (λ fault. Explains options.packets (writes None) before now (Some fault)) }
     ensures origin { S.origin source.new ≡ S.origin source.old }
 {
@@ -124,6 +127,7 @@ fn threaded_by<
         rt,
         alloc,
         &command.options,
+        hashing,
         work,
         source,
         gate,
@@ -151,6 +155,7 @@ pub fn threaded_report<
     rt: &R,
     alloc: Global,
     command: &Command,
+    hashing: &FlowHashKey,
     source: &mut S,
     out: &mut K,
     gate: &G,
@@ -160,23 +165,29 @@ pub fn threaded_report<
     ensures outcome { let before = ends (S.left source.old) (S.faults source.old) (K.faults out.old) (K.may_hold out.old) in
         let now = ends (S.left source.new) (S.faults source.new) (K.faults out.new) (K.may_hold out.new) in
         let options = command.now.options in
-        let writes = IsThreadedText N.packets (commands.report_by options.work) command.now.journal (terms_of options) in
+        let writes = IsThreadedText N.packets (commands.report_by options.work) command.now.journal (commands.run_terms options) in
         MatchResult result (λ run. Explains options.packets (writes (Some run)) before now None) (λ fault. Explains options.packets (writes None) before now (Some fault)) }
     ensures origin { S.origin source.new ≡ S.origin source.old }
 {
     match work_of(&command.options) {
         WorkName::Count => {
-            threaded_by::<N, S, Count, K, G, R>(rt, alloc, command, &Count, source, out, gate)
+            threaded_by::<N, S, Count, K, G, R>(
+                rt, alloc, command, hashing, &Count, source, out, gate,
+            )
         }
         WorkName::TcpFlags => {
-            threaded_by::<N, S, TcpFlags, K, G, R>(rt, alloc, command, &TcpFlags, source, out, gate)
+            threaded_by::<N, S, TcpFlags, K, G, R>(
+                rt, alloc, command, hashing, &TcpFlags, source, out, gate,
+            )
         }
         WorkName::Gaps => {
-            threaded_by::<N, S, Gaps, K, G, R>(rt, alloc, command, &Gaps, source, out, gate)
+            threaded_by::<N, S, Gaps, K, G, R>(
+                rt, alloc, command, hashing, &Gaps, source, out, gate,
+            )
         }
         WorkName::OrderFold => {
             threaded_by::<N, S, OrderFold, K, G, R>(
-                rt, alloc, command, &OrderFold, source, out, gate,
+                rt, alloc, command, hashing, &OrderFold, source, out, gate,
             )
         }
     }

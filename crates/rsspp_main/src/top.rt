@@ -1,5 +1,5 @@
 // The top call.
-ghost use Rattle.std.specs.Prelude.{◌≡◌, ◌<◌, ◌≤◌, ◌⊎◌, List, ℕ, Option, None, Some, Ok, Err, IsTrue, map, MatchResult};
+ghost use Rattle.std.specs.Prelude.{◌≡◌, ◌<◌, ◌≤◌, ◌⊎◌, List, ℕ, Option, None, Some, Ok, Err, IsSome, IsTrue, map, MatchResult};
 ghost use Rattle.std.specs.String.{string_bytes};
 ghost use Rattle.rss_base.specs.Faults.{NoneFailed};
 ghost use Rattle.pcap_reader.specs.StreamEnd.{Whole, Broken, TooMany, EndsStream};
@@ -11,7 +11,7 @@ ghost use Rattle.command_words.specs.Refusals.{is_refused};
 ghost use Rattle.command_words.specs.declared.command.Command.{Command};
 ghost use Rattle.command_words.specs.declared.mode.Mode.TheVariants.{Demo, Make, Plan};
 ghost use Rattle.command_words.specs.declared.word_fault.WordFault.{WordFault};
-ghost use Rattle.rsspp_main.specs.Answers.{Answers, Does, NamesRun, NamesRunOf, ReadsCapture, fault_of_word};
+ghost use Rattle.rsspp_main.specs.Answers.{Answers, Does, HasNumbers, MakesTables, NamesRun, NamesRunOf, ReadsCapture, fault_of_word};
 ghost use Rattle.rsspp_main.specs.Notes.{Says, note_of};
 ghost use Rattle.traffic_gen.specs.Traffic.{traffic};
 ghost use Rattle.dispatch_loop.specs.Accepted.{IsAccepted};
@@ -28,6 +28,7 @@ use crate::notes::fault_line;
 use crate::serial::serial_report;
 use crate::threaded::threaded_report;
 use crate::{Answer, TopFault, Trace};
+use bucket_table::FlowHashKey;
 use command_words::{Command, Mode, WordFault, read_words};
 use packet_fields::RunName;
 use rss_base::{Gate, Sink, Source};
@@ -68,6 +69,7 @@ fn run_report<
     rt: &R,
     alloc: Global,
     command: &Command,
+    hashing: &FlowHashKey,
     source: &mut S,
     out: &mut K,
     gate: &G,
@@ -82,11 +84,15 @@ fn run_report<
     ensures origin { S.origin source.new ≡ S.origin source.old }
 {
     match command.serial {
-        Some(number) => match serial_report::<N, S, K>(alloc, command, number, source, out) {
+        Some(number) => match serial_report::<N, S, K>(
+            alloc, command, hashing, number, source, out,
+        ) {
             Ok(()) => Ok(None),
             Err(fault) => Err(fault),
         },
-        None => match threaded_report::<N, S, K, G, R>(rt, alloc, command, source, out, gate) {
+        None => match threaded_report::<N, S, K, G, R>(
+            rt, alloc, command, hashing, source, out, gate,
+        ) {
             Ok(run) => Ok(Some(run)),
             Err(fault) => Err(fault),
         },
@@ -98,6 +104,7 @@ fn run_demo<N: RunName + Send + Sync + Drop, K: Sink, G: Gate + Sync, R: Threads
     rt: &R,
     alloc: Global,
     command: &Command,
+    hashing: &FlowHashKey,
     out: &mut K,
     gate: &G,
 ) -> Result<Option<Trace>, TopFault>
@@ -111,18 +118,19 @@ fn run_demo<N: RunName + Send + Sync + Drop, K: Sink, G: Gate + Sync, R: Threads
         (λ fault. ExplainsDemo N.packets (report_by c.options.work) c before now (Some fault) × IsTold c.serial (Some fault) None × ToldOfDemo c None) }
 {
     match command.serial {
-        Some(number) => match serial_demo::<N, K>(alloc, command, number, out) {
+        Some(number) => match serial_demo::<N, K>(alloc, command, hashing, number, out) {
             Ok(()) => Ok(None),
             Err(fault) => Err(fault),
         },
-        None => match threaded_demo::<N, K, G, R>(rt, alloc, command, out, gate) {
+        None => match threaded_demo::<N, K, G, R>(rt, alloc, command, hashing, out, gate) {
             Ok(run) => Ok(Some(run)),
             Err(fault) => Err(fault),
         },
     }
 }
 
-// Does what a command asks for. Answers the trace of a run in threads.
+// Does what a command asks for. Answers the trace of a run in threads. A mode that makes flow tables
+// isn't begun without numbers to hash by.
 fn run<
     N: RunName + Send + Sync + Drop,
     S: Source,
@@ -133,6 +141,7 @@ fn run<
     rt: &R,
     alloc: Global,
     command: &Command,
+    hashing: Option<FlowHashKey>,
     source: &mut S,
     out: &mut K,
     gate: &G,
@@ -141,15 +150,23 @@ fn run<
     requires named { NamesRunOf N.packets command.now.mode command.now (S.left source.old) }
     ensures outcome { let before = ends (S.left source.old) (S.faults source.old) (K.faults out.old) (K.may_hold out.old) in
         let now = ends (S.left source.new) (S.faults source.new) (K.faults out.new) (K.may_hold out.new) in
-        MatchResult result (λ told. Does N.packets told command.now.mode command.now before now None) (λ fault. Does N.packets None command.now.mode command.now before now (Some fault)) }
+        MatchResult result (λ told. Does hashing N.packets told command.now.mode command.now before now None) (λ fault. Does hashing N.packets None command.now.mode command.now before now (Some fault)) }
     ensures origin { S.origin source.new ≡ S.origin source.old }
 {
     match command.mode {
-        Mode::Report => run_report::<N, S, K, G, R>(rt, alloc, command, source, out, gate),
+        Mode::Report => match &hashing {
+            Some(hashing) => {
+                run_report::<N, S, K, G, R>(rt, alloc, command, hashing, source, out, gate)
+            }
+            None => Err(TopFault::Undrawn),
+        },
         Mode::Hash => untold(hash_listing(alloc, command, source, out)),
         Mode::Plan => untold(plan(alloc, source, out)),
         Mode::Make => untold(make_capture(command, out)),
-        Mode::Demo => run_demo::<N, K, G, R>(rt, alloc, command, out, gate),
+        Mode::Demo => match &hashing {
+            Some(hashing) => run_demo::<N, K, G, R>(rt, alloc, command, hashing, out, gate),
+            None => Err(TopFault::Undrawn),
+        },
     }
 }
 
@@ -164,6 +181,7 @@ fn read_and_run<
     rt: &R,
     alloc: Global,
     words: &[String],
+    hashing: Option<FlowHashKey>,
     source: &mut S,
     out: &mut K,
     gate: &G,
@@ -172,20 +190,22 @@ fn read_and_run<
     ensures outcome { let before = ends (S.left source.old) (S.faults source.old) (K.faults out.old) (K.may_hold out.old) in
         let now = ends (S.left source.new) (S.faults source.new) (K.faults out.new) (K.may_hold out.new) in
         let asked = command_of (map string_bytes words.now) in
-        MatchResult result (λ told. Answers N.packets told asked before now None) (λ fault. Answers N.packets None asked before now (Some fault)) }
+        MatchResult result (λ told. Answers hashing N.packets told asked before now None) (λ fault. Answers hashing N.packets None asked before now (Some fault)) }
     ensures look { IsTrue (is_refused (map string_bytes words.now)) → result ≡ Err (TopFault.Words WordFault.Words) }
     ensures origin { S.origin source.new ≡ S.origin source.old }
 {
     match read_words(alloc, words) {
-        Ok(command) => run::<N, S, K, G, R>(rt, alloc, &command, source, out, gate),
+        Ok(command) => run::<N, S, K, G, R>(rt, alloc, &command, hashing, source, out, gate),
         Err(fault) => Err(fault_of_words(fault)),
     }
 }
 
 /// Does all that the program does, and answers the status that it ends with.
 ///
-/// `words` are those after the program's name, `source` is the capture or the plan text, `out`
-/// gets the output, and `notes` one line where the status isn't 0. `report` and `demo` run in
+/// `words` are those after the program's name, `hashing` are the numbers that flow tables hash by, if
+/// they could be drawn, `source` is the capture or the plan text, `out` gets the output, and `notes`
+/// one line where the status isn't 0. Without numbers `report` and `demo` end as with a failed read,
+/// and nothing is read or written; nothing else depends on them. `report` and `demo` run in
 /// threads, and each worker passes the gate before each packet; with `--serial` they run on the
 /// caller's thread, under its number. With `--serial`, and with the other modes, the call returns;
 /// of a run in threads that isn't claimed.
@@ -200,6 +220,7 @@ pub fn rsspp<
     rt: &R,
     alloc: Global,
     words: &[String],
+    hashing: Option<FlowHashKey>,
     source: &mut S,
     out: &mut K,
     notes: &mut F,
@@ -217,7 +238,7 @@ pub fn rsspp<
     ensures outcome { let before = ends (S.left source.old) (S.faults source.old) (K.faults out.old) (K.may_hold out.old) in
         let now = ends (S.left source.new) (S.faults source.new) (K.faults out.new) (K.may_hold out.new) in
         (fault : Option TopFault) × (result.status ≡ status_of fault)
-        × Answers N.packets result.trace (command_of (map string_bytes words.now)) before now fault
+        × Answers hashing N.packets result.trace (command_of (map string_bytes words.now)) before now fault
         × Says (F.faults notes.old) (F.faults notes.new) (F.may_hold notes.old) (F.may_hold notes.new) (note_of fault) }
 
     // Status 2 comes only where the words are refused, and there unless memory runs out.
@@ -227,20 +248,25 @@ pub fn rsspp<
     // It comes wherever the look refuses the words, since that takes no memory.
     ensures look { IsTrue (is_refused (map string_bytes words.now)) → result.status ≡ 2 }
 
+    // Without numbers to hash by, a mode that makes flow tables ends as with a failed read, unless
+    // memory runs out over the words.
+    ensures undrawn { (c : Command) → command_of (map string_bytes words.now) ≡ Ok c → MakesTables c.mode → hashing ≡ None
+        → (result.status ≡ 4) ⊎ (result.status ≡ 6) }
+
     // A whole capture is reported or listed where no call fails, unless memory runs out.
-    ensures done { (c : Command) (bytes : List ℕ) → command_of (map string_bytes words.now) ≡ Ok c → ReadsCapture c.mode
+    ensures done { (c : Command) (bytes : List ℕ) → command_of (map string_bytes words.now) ≡ Ok c → ReadsCapture c.mode → HasNumbers hashing c.mode
         → S.left source.old ≡ Some bytes → EndsStream c.options.packets bytes Whole
         → NoneFailed (S.faults source.old) (S.faults source.new) → NoneFailed (K.faults out.old) (K.faults out.new)
         → (result.status ≡ 0) ⊎ (result.status ≡ 6) }
 
     // A broken capture is refused where no read fails, unless memory runs out.
-    ensures broken { (c : Command) (bytes : List ℕ) (e : Break) → command_of (map string_bytes words.now) ≡ Ok c → ReadsCapture c.mode
+    ensures broken { (c : Command) (bytes : List ℕ) (e : Break) → command_of (map string_bytes words.now) ≡ Ok c → ReadsCapture c.mode → HasNumbers hashing c.mode
         → S.left source.old ≡ Some bytes → EndsStream c.options.packets bytes (Broken e)
         → NoneFailed (S.faults source.old) (S.faults source.new)
         → (result.status ≡ 3) ⊎ (result.status ≡ 6) }
 
     // So is one of more packets than the limit.
-    ensures too_many { (c : Command) (bytes : List ℕ) → command_of (map string_bytes words.now) ≡ Ok c → ReadsCapture c.mode
+    ensures too_many { (c : Command) (bytes : List ℕ) → command_of (map string_bytes words.now) ≡ Ok c → ReadsCapture c.mode → HasNumbers hashing c.mode
         → S.left source.old ≡ Some bytes → EndsStream c.options.packets bytes TooMany
         → NoneFailed (S.faults source.old) (S.faults source.new)
         → (result.status ≡ 7) ⊎ (result.status ≡ 6) }
@@ -263,14 +289,14 @@ pub fn rsspp<
 
     // A demo is done where no write fails and its packets are no more than the limit, unless memory
     // runs out, and else it is refused.
-    ensures shown { (c : Command) → command_of (map string_bytes words.now) ≡ Ok c → c.mode ≡ Demo → c.count ≤ c.options.packets
+    ensures shown { (c : Command) → command_of (map string_bytes words.now) ≡ Ok c → c.mode ≡ Demo → IsSome hashing → c.count ≤ c.options.packets
         → NoneFailed (K.faults out.old) (K.faults out.new) → (result.status ≡ 0) ⊎ (result.status ≡ 6) }
-    ensures too_long { (c : Command) → command_of (map string_bytes words.now) ≡ Ok c → c.mode ≡ Demo → c.options.packets < c.count
+    ensures too_long { (c : Command) → command_of (map string_bytes words.now) ≡ Ok c → c.mode ≡ Demo → IsSome hashing → c.options.packets < c.count
         → (result.status ≡ 7) ⊎ (result.status ≡ 6) }
 
     ensures origin { S.origin source.new ≡ S.origin source.old }
 {
-    match read_and_run::<N, S, K, G, R>(rt, alloc, words, source, out, gate) {
+    match read_and_run::<N, S, K, G, R>(rt, alloc, words, hashing, source, out, gate) {
         Ok(trace) => Answer { status: 0, trace },
         Err(fault) => {
             let _ = fault_line(&fault, notes);

@@ -14,6 +14,7 @@ use Rattle.handover_core.specs.Machine.{steps_left}
 use Rattle.handover_core.specs.Runs.{IsMade}
 use Rattle.core_queue.specs.declared.eye.LaneEye.{LaneEye}
 use Rattle.core_queue.specs.Local.{LocalState, new_lane}
+use Rattle.flow_work.specs.declared.work.TheConstants.{MOST_COST}
 use Rattle.worker_loop.specs.Job.{Job}
 use Rattle.dispatch_loop.specs.Accepted.{IsAccepted}
 use Rattle.dispatch_loop.specs.Face.{Face}
@@ -38,25 +39,25 @@ one_few true = omega arith
 one_few false = omega arith
 
 -- what is left of a run at first is less than the sweeps that it may have
-few_at_first : (steps p most cores buckets moves k : ℕ) → steps ≡ 2 * (p + p + cores) + 2 * (p + buckets) → p ≤ most → most ≤ 2 ^ 32 - 1 → cores ≤ 64 → buckets ≤ 512 → moves ≤ 4096 → k ≤ 1 → 0 + (steps + (moves + 0 + (18 * (most - 0) + 17 * k))) < 1099511627776
+few_at_first : (steps p most cores buckets moves k : ℕ) → steps ≡ 2 * (p + p + cores) + 2 * (p + buckets) → p ≤ most → most ≤ 2 ^ 32 - 1 → cores ≤ 64 → buckets ≤ 2048 → moves ≤ 4096 → k ≤ 1 → 0 + (steps + (moves + 0 + (18 * (most - 0) + 17 * k))) < 1099511627776
 few_at_first steps p most cores buckets moves k e few most_few c b m one = omega arith
 
 buckets_in : (t : Terms) (xs : List PacketInfo) → 0 < buckets_of t → All (λ bucket. bucket < buckets_of t) (map (λ (p : Parcel). p.bucket) (parcels t xs))
 buckets_in t [] some = λ k d lt. absurd (omega arith)
 buckets_in t (x ∷ xs) some = All-cons (λ (bucket : ℕ). bucket < buckets_of t) (bucket_of t.key (buckets_of t) x) (map (λ (p : Parcel). p.bucket) (parcels t xs)) (bucket-below t.key (buckets_of t) x some) (buckets_in t xs some)
 
-module _ {S : Type 0} (packets : Option (List PacketInfo)) (x : Job S) (o : OptionsView) (accepted : IsAccepted o) (number : ℕ) (bytes left : Option (List ℕ)) (f : Floor (TableOf S)) (reader : Reading)
+module _ {S : Type 0} (packets : Option (List PacketInfo)) (x : Job S) (o : OptionsView) (accepted : IsAccepted o) (cheap : (p : PacketInfo) → x.cost p ≤ MOST_COST) (number : ℕ) (bytes left : Option (List ℕ)) (f : Floor (TableOf S)) (reader : Reading)
     (new : IsNew o.key (length o.start.owners) o.cores o.pool f) (named : AreNamed packets o.packets bytes) (header : TakesHeader bytes (still reader left) reader.form) (first : (reader.given ≡ 0) × (reader.progress ≡ Going)) where
   abbrev t : Terms
-  t = terms_of o
+  t = terms_of x.cost o
 
-  same_cores : cores_of (terms_of o) ≡ o.cores
+  same_cores : cores_of (terms_of x.cost o) ≡ o.cores
   same_cores = accepted.cores
 
-  lanes_wide : length (map eye_of f.lanes) ≡ cores_of (terms_of o)
+  lanes_wide : length (map eye_of f.lanes) ≡ cores_of (terms_of x.cost o)
   lanes_wide = length-map f.lanes eye_of ∙ (new.lanes_wide ∙ sym same_cores)
 
-  is_fresh : AreFresh packets bytes (terms_of o) (map eye_of f.lanes) f.shelf.eye f.meter.eye reader left
+  is_fresh : AreFresh packets bytes (terms_of x.cost o) (map eye_of f.lanes) f.shelf.eye f.meter.eye reader left
   is_fresh = record {
     named = named;
     wide = lanes_wide;
@@ -72,41 +73,42 @@ module _ {S : Type 0} (packets : Option (List PacketInfo)) (x : Job S) (o : Opti
     so_far = SoFar-start bytes (still reader left) reader.form header;
   }
 
-  fresh_tied : Tied packets (past bytes []) (fresh_face (terms_of o)) (map eye_of f.lanes) f.shelf.eye f.meter.eye reader left
-  fresh_tied = tied-fresh packets bytes (terms_of o) (map eye_of f.lanes) f.shelf.eye f.meter.eye reader left (sound o accepted) is_fresh
+  fresh_tied : Tied packets (past bytes []) (fresh_face (terms_of x.cost o)) (map eye_of f.lanes) f.shelf.eye f.meter.eye reader left
+  fresh_tied = tied-fresh packets bytes (terms_of x.cost o) (map eye_of f.lanes) f.shelf.eye f.meter.eye reader left (sound x.cost o cheap accepted) is_fresh
 
-  is_made : (xs : List PacketInfo) → length xs ≤ o.packets → IsMade o.start.owners o.start.cores (map (λ (p : Parcel). p.bucket) (parcels (terms_of o) xs)) o.pool
+  is_made : (xs : List PacketInfo) → length xs ≤ o.packets → IsMade o.start.owners o.start.cores (map (λ (p : Parcel). p.bucket) (parcels (terms_of x.cost o) xs)) o.pool
   is_made xs few = record {
     owned = accepted.start.owners;
-    sorted = buckets_in (terms_of o) xs (let b = accepted.start.some_bucket in omega arith);
-    few = let a = length-map (parcels (terms_of o) xs) (λ (p : Parcel). p.bucket) in let b = length-map xs (parcel_of (terms_of o)) in let c = accepted.packets.1 in omega arith;
+    sorted = buckets_in (terms_of x.cost o) xs (let b = accepted.start.some_bucket in omega arith);
+    few = let a = length-map (parcels (terms_of x.cost o) xs) (λ (p : Parcel). p.bucket) in let b = length-map xs (parcel_of (terms_of x.cost o)) in let c = accepted.packets.1 in omega arith;
     cells = let p = accepted.pool.0 in omega arith;
   }
 
   new_of : IsNew o.key (length o.start.owners) o.start.cores o.pool f
   new_of = subst (λ (n : ℕ). IsNew o.key (length o.start.owners) n o.pool f) (sym same_cores) new
 
-  run_begins : (xs : List PacketInfo) → length xs ≤ o.packets → IsRunBy x xs [] (setting_of (terms_of o) o.pool xs) (begins (setting_of (terms_of o) o.pool xs)) (fresh_face (terms_of o)) f
+  run_begins : (xs : List PacketInfo) → length xs ≤ o.packets → IsRunBy x xs [] (setting_of (terms_of x.cost o) o.pool xs) (begins (setting_of (terms_of x.cost o) o.pool xs)) (fresh_face (terms_of x.cost o)) f
   run_begins xs few = record {
     at = record {
-      workers = workers_begin x (setting_of (terms_of o) o.pool xs) o.key f new_of (is_made xs few);
-      desk = desk_begins (terms_of o) o.pool (parcels (terms_of o) xs);
+      workers = workers_begin x (setting_of (terms_of x.cost o) o.pool xs) o.key f new_of (is_made xs few);
+      desk = desk_begins (terms_of x.cost o) o.pool (parcels (terms_of x.cost o) xs);
     };
-    rooms = λ c near. ap (λ (l : LocalState). l.room) (new_of.lanes c (let n : length (begins (setting_of (terms_of o) o.pool xs)).machine.cores ≡ o.start.cores = length-replicate o.start.cores _ in omega arith));
+    rooms = λ c near. ap (λ (l : LocalState). l.room) (new_of.lanes c (let n : length (begins (setting_of (terms_of x.cost o) o.pool xs)).machine.cores ≡ o.start.cores = length-replicate o.start.cores _ in omega arith));
     is_of = record { rules = refl; parcels_are = refl; packets_are = refl };
+    cost = refl;
     told = λ still. refl;
   }
 
   -- the run of whatever packets the stream has stands at its beginning
-  pub run_opens : (d : Face) → d ≡ fresh_face (terms_of o) → IsSweeping packets x (terms_of o) o.pool number 0 bytes d f reader left
-  run_opens d is = subst (λ (z : Face). IsSweeping packets x (terms_of o) o.pool number 0 bytes z f reader left) (sym is) (record {
+  pub run_opens : (d : Face) → d ≡ fresh_face (terms_of x.cost o) → IsSweeping packets x (terms_of x.cost o) o.pool number 0 bytes d f reader left
+  run_opens d is = subst (λ (z : Face). IsSweeping packets x (terms_of x.cost o) o.pool number 0 bytes z f reader left) (sym is) (record {
     sent = [];
     tied = record { terms = refl; tied = fresh_tied };
     runs = λ xs goes few. record {
-      state = begins (setting_of (terms_of o) o.pool xs);
+      state = begins (setting_of (terms_of x.cost o) o.pool xs);
       by = run_begins xs few;
       is = λ still. refl;
-      few = few_at_first (steps_left (begins (setting_of (terms_of o) o.pool xs)).machine) (length (parcels (terms_of o) xs)) o.packets o.start.cores (length o.start.owners) (length o.moves) (one_if (is_round_due (fresh_face (terms_of o))))
-          (first_falls (setting_of (terms_of o) o.pool xs)) (let b = length-map xs (parcel_of (terms_of o)) in omega arith) (let m = accepted.packets.1 in omega arith) (let m = accepted.start.cores in omega arith) (let m = accepted.start.buckets in omega arith) (let m = accepted.most_orders in omega arith) (one_few (is_round_due (fresh_face (terms_of o))));
+      few = few_at_first (steps_left (begins (setting_of (terms_of x.cost o) o.pool xs)).machine) (length (parcels (terms_of x.cost o) xs)) o.packets o.start.cores (length o.start.owners) (length o.moves) (one_if (is_round_due (fresh_face (terms_of x.cost o))))
+          (first_falls (setting_of (terms_of x.cost o) o.pool xs)) (let b = length-map xs (parcel_of (terms_of x.cost o)) in omega arith) (let m = accepted.packets.1 in omega arith) (let m = accepted.start.cores in omega arith) (let m = accepted.start.buckets in omega arith) (let m = accepted.most_orders in omega arith) (one_few (is_round_due (fresh_face (terms_of x.cost o))));
     };
   })

@@ -11,7 +11,8 @@ use Rattle.core_queue.specs.declared.item.Seen.{Seen}
 use Rattle.core_queue.specs.declared.item.Seen.TheVariants.{Packet, Close}
 use Rattle.core_queue.specs.declared.eye.LaneEye.{LaneEye}
 use Rattle.core_queue.specs.Local.{LocalState, new_lane}
-use Rattle.indirection.specs.Story.{Step}
+use Rattle.indirection.specs.Story.{Step, parcels_of}
+use Rattle.dispatch_loop.specs.Costs.{HaveCosts}
 use Rattle.load_meter.specs.declared.eye.LoadEye.{LoadEye}
 use Rattle.load_meter.specs.LoadEye.{known_at, noting}
 use Rattle.worker_loop.specs.declared.worker_turn.WorkerTurn.{WorkerTurn}
@@ -89,6 +90,7 @@ same_lane packets d steps c e e' same h = record {
   buckets = same.buckets ∙ h.buckets;
   sent = ap (map plain) same.sent ∙ h.sent;
   carried = carried_by packets e e' same h.carried;
+  costs = subst (λ (z : List Seen). HaveCosts d.terms.cost (parcels_of steps) z) (sym same.sent) h.costs;
 }
 
 module _ {S : Type 0} (x : Job S) (c : ℕ) (turn : WorkerTurn) (f f' : Floor (TableOf S)) (near : c < length f.lanes) (h : IsWorkerTurn x c turn f f') where

@@ -22,7 +22,7 @@ use Rattle.dispatch_loop.specs.Rules as turns
 use Rattle.dispatch_loop.specs.Rules.{Acts, Fetches, ReadsNext, HasRead, IsNext, IsRoundMade, IsRoundRefused, IsPacketTurn, IsEndTurn, SendsPacket, SendsEnd}
 use Rattle.dispatch_loop.specs.Tied.{TiedIn}
 use Rattle.dispatch_loop.proofs.Dues.{round_due, and_false, asked, IsProposed, IsOrdered}
-use Rattle.dispatch_loop.proofs.GreedyFew.{few-proposals}
+use Rattle.balancer.proofs.Proposed.{named_proposals}
 use Rattle.rsspp_run.specs.Sweeps.{one_if, to_try}
 
 -- numbers
@@ -120,7 +120,7 @@ module _ {T : Type 0} where
       (rounded (length f.orders) (length f.proposals) (length (with_round f (loads_of f h.readings)).proposals) (f.terms.packets - f.sent) (one_if (is_round_due f)) (one_if (is_round_due (with_round f (loads_of f h.readings))))
       (both f.short (f.since == f.terms.round) due.0 (Rattle.std.proofs.Common.eq-eqb f.since f.terms.round due.1))
       (ap (λ (b : Bool). one_if (not f.short && b)) (ne_eqb 0 f.terms.round (λ e. omega arith)) ∙ ap one_if (and_false (not f.short)))
-      (let n = few-proposals f.terms.limit (opening (cores_of f.terms) (loads_of f h.readings) f.owners) in omega arith))
+      (let n = (named_proposals f.terms.policy (cores_of f.terms) f.terms.limit (loads_of f h.readings) f.owners).few in omega arith))
 
   pub refused_less : (s m : Scene T) → IsRoundRefused s m → to_try m.desk ≤ to_try s.desk
   refused_less s m h = let f = s.desk in subst (λ (z : Face). to_try z ≤ to_try f) (sym h.desk) (dropped (length f.orders) (length f.proposals) (f.terms.packets - f.sent) (one_if (is_round_due f)))

@@ -36,9 +36,9 @@ count_there b (p ∷ ps) =
     sum_by-cons (λ (x : ℕ). if x == b then 1 else 0) p.bucket (map bucket_in ps)
     ∙ (ap (λ (n : ℕ). (if p.bucket == b then 1 else 0) + n) (count_there b ps) ∙ sym (sum_by-cons (λ (q : Parcel). if q.bucket == b then 1 else 0) p ps))
 
-module _ {S : Type 0} (opening : S) (after : S → PacketInfo → S) (packets : Option (List PacketInfo)) (t : Terms) (pool number : ℕ) (bytes : Option (List ℕ)) (end : DispatcherEnd) (d : Face) (f : Floor (TableOf S)) (reader : Reading) (left : Option (List ℕ))
-    (h : HasEnded packets (job opening after packets) t pool number bytes end d f reader left) where
-  are : AreWorkersAt (job opening after packets) h.state f
+module _ {S : Type 0} (opening : S) (after : S → PacketInfo → S) (cost : PacketInfo → ℕ) (packets : Option (List PacketInfo)) (t : Terms) (pool number : ℕ) (bytes : Option (List ℕ)) (end : DispatcherEnd) (d : Face) (f : Floor (TableOf S)) (reader : Reading) (left : Option (List ℕ))
+    (h : HasEnded packets (job opening after cost packets) t pool number bytes end d f reader left) where
+  are : AreWorkersAt (job opening after cost packets) h.state f
   are = h.by.at.workers
 
   some_core : 0 < length h.state.machine.cores
@@ -58,7 +58,7 @@ module _ {S : Type 0} (opening : S) (after : S → PacketInfo → S) (packets : 
       let u = are.each 0 some_core in
       let same : stock f.shelf.words f.shelf.homes ≡ u.shows.stock = ap stock_or u.shows.stock_is in
       let n = ap (λ (z : Stock (TableOf S)). length z.homes) same in let w = u.shows.wide.1 in
-      all_lie (job opening after packets) h.state f are h.finished b (omega arith)
+      all_lie (job opening after cost packets) h.state f are h.finished b (omega arith)
 
   word_is : (b : ℕ) → b < length h.state.machine.buckets → get_or f.shelf.words b 0 ≡ 2 * total h.state.machine b + 1
   word_is b near =

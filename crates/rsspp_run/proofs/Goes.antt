@@ -1,5 +1,5 @@
 -- The packets of a run that go on behind a turn of the dispatcher went on before it.
-use Rattle.std.proofs.Common.{◌≡◌, ℕ, ◌<◌, false, List, length, Option, Some, refl, sym, ap, ◌∙◌, subst, ⊎_elim, inl, inr, arith}
+use Rattle.std.proofs.Common.{◌++◌, ◌≡◌, ℕ, ◌<◌, false, List, length, Option, Some, refl, sym, ap, ◌∙◌, subst, ⊎_elim, inl, inr, arith}
 use Rattle.bucket_table.specs.Table.{TableOf}
 use Rattle.packet_fields.specs.declared.packet.PacketInfo.{PacketInfo}
 use Rattle.pcap_reader.specs.Reading.{Reading}
@@ -13,7 +13,7 @@ use Rattle.dispatch_loop.specs.declared.dispatcher_turn.DispatcherTurn.{Dispatch
 use Rattle.dispatch_loop.specs.declared.dispatcher_turn.DispatcherTurn.TheVariants.{Sent, Round, Ordered, EndSent, NoCell, LaneFull, Finished}
 use Rattle.dispatch_loop.specs.Does.{bucket_for, noted, decided}
 use Rattle.dispatch_loop.specs.Face.{Face}
-use Rattle.dispatch_loop.specs.Past.{Past, parcels, story}
+use Rattle.dispatch_loop.specs.Past.{Past, held_list, parcels, story}
 use Rattle.dispatch_loop.specs.Scene as desks
 use Rattle.dispatch_loop.specs.Scene.{Outs}
 use Rattle.dispatch_loop.specs.Rules as turns
@@ -114,13 +114,14 @@ module _ (packets : Option (List PacketInfo)) (p : Past) (all : List PacketInfo)
 
   -- a turn of a dispatcher that isn't short of memory is the run's turn, whatever packets the run goes on with
   pub turn_of_run : {S : Type 0} (x : Job S) (j : Setting) (r : RunState) (d d' : Face) (f f' : Floor (TableOf S)) (reader reader' : Reading) (left left' : Option (List ℕ)) (faults faults' : ℕ)
-      → IsAt x r d f → HaveRoom r f → f'.key ≡ f.key → f'.workers ≡ f.workers → d'.short ≡ false → TiedIn packets p (desk_scene d f reader left faults) → IsRunOf all j r d.terms → r.steps ≡ story d p.packets
+      → IsAt x r d f → HaveRoom r f → f'.key ≡ f.key → f'.workers ≡ f.workers → d'.short ≡ false → TiedIn packets p (desk_scene d f reader left faults) → IsRunOf all j r d.terms → x.cost ≡ d.terms.cost → r.steps ≡ story d p.packets
       → (turn : DispatcherTurn) → turns.IsTurn (desk_scene d f reader left faults) turn (desk_scene d' f' reader' left' faults')
       → (ps : List PacketInfo) → Grows turn p.packets ps (desk_scene d f reader left faults).outs.lanes (desk_scene d' f' reader' left' faults').outs.lanes → Continues all ps d'
       → IsAt x (dispatcher_turn j r) d' f' × ((dispatcher_turn j r).steps ≡ story d' ps)
-  turn_of_run {S} x j r d d' f f' reader reader' left left' faults faults' at rooms key workers still tied is told turn rule ps grows c =
+  turn_of_run {S} x j r d d' f f' reader reader' left left' faults faults' at rooms key workers still tied is cost told turn rule ps grows c =
+      let before = before_turn (desk_scene d f reader left faults) (desk_scene d' f' reader' left' faults') tied turn ps grows rule c in
       let ready = ready_of r.machine packets p d (desk_scene d f reader left faults).outs.lanes f.shelf.eye f.meter.eye reader left tied at.desk in
-      run_then x j r d d' f f' reader reader' left left' faults faults' at rooms ready key workers still packets p tied is.rules told turn rule
+      run_then x j r d d' f f' reader reader' left left' faults faults' at rooms ready key workers still packets p tied is.rules told all is.parcels_are (held_list d.held ++ before.rest) before.is cost turn rule
       (λ m fetch next.
       let same = same_terms (desk_scene d f reader left faults) m fetch in let n = same.1 in
       let sent : r.machine.sent ≡ length p.packets = (let e = at.desk.sent in let q = sent-is d p.packets tied.dealt in omega arith) in (

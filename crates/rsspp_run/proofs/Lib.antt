@@ -15,8 +15,10 @@ pub mod Ready
 pub mod Rests
 pub mod Rooms
 pub mod Rounds
+mod InOrder
 pub mod WorkerTurns
 pub mod WorkedFew
+mod TakenCosts
 pub mod RoundTold
 pub mod StepsThen
 pub mod RoomsStay

@@ -47,6 +47,7 @@ module _ {S : Type 0} (x : Job S) (j : Setting) (key : Key) (f : Floor (TableOf 
         log = λ still. ap (λ (s : Side). s.log) side;
         told = record { loads = replicate j.rules.cores 0; is = refl; core = (let l : length (replicate {A = ℕ} j.rules.cores 0) ≡ j.rules.cores = length-replicate j.rules.cores 0 in omega arith); number = get_or-replicate j.rules.cores c 0 0 near };
         sent = refl;
+        order = refl;
         spans = λ still. fresh_stinted c (run_of key (length j.rules.start));
         entries = tt;
       })

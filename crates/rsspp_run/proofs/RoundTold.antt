@@ -6,14 +6,17 @@ use Rattle.packet_fields.specs.declared.packet.PacketInfo.{PacketInfo}
 use Rattle.indirection.proofs.Told.{parcels_of-told}
 use Rattle.indirection.specs.Tries.{owner_after, owners_after, upto}
 use Rattle.indirection.specs.Views.{LoadsView}
-use Rattle.indirection.specs.Story.{Parcel, RoundHead, Step, tries_of, parcels_of, count_in, sent_to}
+use Rattle.indirection.specs.Story.{Parcel, RoundHead, Step, tries_of, parcels_of, sent_to}
 use Rattle.indirection.specs.Due.{Rules, RoundDue, position}
 use Rattle.indirection.specs.Lawful.{cost_in, recent}
 use Rattle.handover_core.specs.State.{core_at}
 use Rattle.load_meter.specs.declared.eye.LoadEye.{LoadEye}
 use Rattle.worker_loop.specs.Job.{Job}
-use Rattle.worker_loop.specs.Schedule.{worked_of}
-use Rattle.worker_loop.proofs.Tallied.{worked_is}
+use Rattle.worker_loop.specs.Counts.{HaveCosts}
+use Rattle.worker_loop.specs.Schedule.{worked_cost}
+use Rattle.worker_loop.proofs.Tallied.{cost_is}
+use Rattle.flow_work.specs.declared.work.TheConstants.{MOST_COST}
+use Rattle.dispatch_loop.specs.Costs.{cost_at}
 use Rattle.dispatch_loop.specs.Terms.{cores_of, buckets_of, rules_of}
 use Rattle.dispatch_loop.specs.Face.{Face}
 use Rattle.dispatch_loop.specs.Asks.{due_now}
@@ -22,11 +25,11 @@ use Rattle.dispatch_loop.specs.Does.{AreReadings, bases_of, loads_of}
 use Rattle.dispatch_loop.specs.Steps.{round_by}
 use Rattle.dispatch_loop.specs.Tied.{IsDealt, IsLawfulStill}
 use Rattle.dispatch_loop.proofs.Dues.{round_due}
-use Rattle.dispatch_loop.proofs.Lawfuls.{by-elements, base-get, cost-recent}
+use Rattle.dispatch_loop.proofs.Lawfuls.{by-elements, base-get}
 use Rattle.dispatch_loop.proofs.Weighed.{length-bases}
 use Rattle.rsspp_run.specs.Serial.{Setting, RunState, loads_now, round_now}
-use Rattle.rsspp_run.specs.Floor.{Floor, scene_at, AreWorkersAt}
-use Rattle.rsspp_run.proofs.WorkedFew.{worked_whole}
+use Rattle.rsspp_run.specs.Floor.{Floor, lane_at, scene_at, AreWorkersAt}
+use Rattle.rsspp_run.proofs.WorkedFew.{cost_whole}
 
 -- the readings are what the meter tells
 pub readings_at : (loads : List ℕ) (e : LoadEye) (from : ℕ) (ns : List ℕ) (c : ℕ) → AreReadings (Some loads) e from ns → c < length ns → slice_index loads (from + c) ≡ get_or ns c 0
@@ -34,12 +37,13 @@ readings_at loads e from [] c a lt = absurd (omega arith)
 readings_at loads e from (n ∷ ns) zero a lt = ap (λ (k : ℕ). get_or loads k 0) (let q : from + 0 ≡ from = omega arith in q) ∙ a.0.1
 readings_at loads e from (n ∷ ns) (suc c) a lt = ap (λ (k : ℕ). get_or loads k 0) (let q : from + suc c ≡ from + 1 + c = omega arith in q) ∙ readings_at loads e (from + 1) ns c a.1 (omega arith)
 
-module _ {S : Type 0} (x : Job S) (r : RunState) (f : Floor (TableOf S)) (are : AreWorkersAt x r f) (cores : length r.machine.cores ≤ 2 ^ 32) where
-  -- the meter tells what each core has worked
-  pub load_is : (c : ℕ) → c < length r.machine.cores → slice_index f.meter.loads c ≡ worked_of (core_at r.machine c)
+module _ {S : Type 0} (x : Job S) (r : RunState) (f : Floor (TableOf S)) (are : AreWorkersAt x r f) (cores : length r.machine.cores ≤ 2 ^ 32)
+    (costs : ℕ → ℕ → ℕ) (small : (b place : ℕ) → costs b place ≤ MOST_COST) (have : (c : ℕ) → c < length r.machine.cores → HaveCosts costs x.cost (lane_at f c).eye.taken) where
+  -- the meter tells what the packets cost that each core has worked
+  pub load_is : (c : ℕ) → c < length r.machine.cores → slice_index f.meter.loads c ≡ worked_cost costs (core_at r.machine c)
   load_is c near =
       let u = are.each c near in
-      ap (λ (o : Option (List ℕ)). get_or (loads_or o) c 0) u.told.is ∙ (u.told.number ∙ (worked_is x r.machine c (scene_at f c) u.tied u.shows ∙ worked_whole r.machine c are.sound cores)) where
+      ap (λ (o : Option (List ℕ)). get_or (loads_or o) c 0) u.told.is ∙ (u.told.number ∙ (cost_is x r.machine c (scene_at f c) costs u.tied u.shows (have c near) ∙ cost_whole costs small r.machine c are.sound cores)) where
         loads_or : Option (List ℕ) → List ℕ
         loads_or Rattle.std.specs.Prelude.None = []
         loads_or (Some ls) = ls
@@ -61,15 +65,15 @@ module _ (j : Setting) (r : RunState) (d : Face) (ps : List PacketInfo) (meter :
   whole = (round_due d due).1
 
   buckets_told : d.loads ≡ map (cost_in (recent (rules_of d.terms) (story d ps))) (upto (buckets_of d.terms))
-  buckets_told = by-elements d.loads (cost_in (recent (rules_of d.terms) (story d ps))) (buckets_of d.terms) wide (λ b k. l.loads b k ∙ (ap (λ (n : ℕ). count_in b (drop (d.sent - n) (parcels d.terms ps))) whole ∙ (sym (cost-recent d.terms b (d.sent - d.terms.round) ps)
-      ∙ (ap (λ (n : ℕ). cost_in (drop (n - d.terms.round) (parcels d.terms ps)) b) dealt.sent ∙ ap (λ (z : List Parcel). cost_in (drop (length (parcels_of (story d ps)) - d.terms.round) z) b) (sym parts)))))
+  buckets_told = by-elements d.loads (cost_in (recent (rules_of d.terms) (story d ps))) (buckets_of d.terms) wide (λ b k. l.loads b k ∙ (ap (λ (n : ℕ). cost_in (drop (d.sent - n) (parcels d.terms ps)) b) whole
+      ∙ (ap (λ (n : ℕ). cost_in (drop (n - d.terms.round) (parcels d.terms ps)) b) dealt.sent ∙ ap (λ (z : List Parcel). cost_in (drop (length (parcels_of (story d ps)) - d.terms.round) z) b) (sym parts))))
 
   owners_told : d.owners ≡ owners_after d.terms.start.owners (tries_of (story d ps))
   owners_told = by-elements d.owners (owner_after d.terms.start.owners (tries_of (story d ps))) (buckets_of d.terms) dealt.owners_wide dealt.owners
 
-  module _ (readings : List ℕ) (count : length readings ≡ cores_of d.terms) (loads : (c : ℕ) → c < cores_of d.terms → get_or readings c 0 ≡ worked_of (core_at r.machine c)) where
-    bases_told : bases_of d.sent_to readings ≡ map (λ c. sent_to c d.terms.start.owners (story d ps) - worked_of (core_at r.machine c)) (upto (cores_of d.terms))
-    bases_told = by-elements (bases_of d.sent_to readings) (λ c. sent_to c d.terms.start.owners (story d ps) - worked_of (core_at r.machine c)) (cores_of d.terms)
+  module _ (readings : List ℕ) (count : length readings ≡ cores_of d.terms) (loads : (c : ℕ) → c < cores_of d.terms → get_or readings c 0 ≡ worked_cost (cost_at j.parcels) (core_at r.machine c)) where
+    bases_told : bases_of d.sent_to readings ≡ map (λ c. sent_to c d.terms.start.owners (story d ps) - worked_cost (cost_at j.parcels) (core_at r.machine c)) (upto (cores_of d.terms))
+    bases_told = by-elements (bases_of d.sent_to readings) (λ c. sent_to c d.terms.start.owners (story d ps) - worked_cost (cost_at j.parcels) (core_at r.machine c)) (cores_of d.terms)
         (length-bases d.sent_to readings (let w = dealt.cores_wide in omega arith) ∙ dealt.cores_wide)
         (λ c near. base-get d.sent_to readings c (let w = dealt.cores_wide in omega arith) ∙ (λ i. dealt.cores c near i - loads c near i))
 
@@ -78,7 +82,7 @@ module _ (j : Setting) (r : RunState) (d : Face) (ps : List PacketInfo) (meter :
 
     loads_told : loads_now j r ≡ loads_of d readings
     loads_told =
-        (λ i. record { bucket = map (cost_in (recent (rules i) (told i))) (upto (length (rules i).start)); base = map (λ c. sent_to c (rules i).start (told i) - worked_of (core_at r.machine c)) (upto (rules i).cores) })
+        (λ i. record { bucket = map (cost_in (recent (rules i) (told i))) (upto (length (rules i).start)); base = map (λ c. sent_to c (rules i).start (told i) - worked_cost (cost_at j.parcels) (core_at r.machine c)) (upto (rules i).cores) })
         ∙ (λ i. record { bucket = sym buckets_told i; base = sym bases_told i })
 
     pub round_told : round_now j r ≡ round_by d readings

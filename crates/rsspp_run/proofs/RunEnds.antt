@@ -14,12 +14,13 @@ use Rattle.dispatch_loop.specs.declared.dispatcher_end.DispatcherEnd.{Dispatcher
 use Rattle.dispatch_loop.specs.Face.{Face}
 use Rattle.dispatch_loop.specs.Past.{parcels}
 use Rattle.dispatch_loop.specs.Terms.{Terms}
-use Rattle.rsspp_run.specs.Floor.{Floor, worker_at, AreWorkersAt}
+use Rattle.rsspp_run.specs.Floor.{Floor, worker_at, scene_at, AreWorkersAt}
 use Rattle.rsspp_run.specs.Serial.{RunState, Side, new_side, by_place, end_of, is_finished, Serial}
 use Rattle.rsspp_run.specs.Sweeps.{setting_of, HasEnded}
 use Rattle.rsspp_run.specs.Ends.{log_in, worked_in}
 use Rattle.rsspp_run.proofs.Bools.{finished_true}
-use Rattle.rsspp_run.proofs.RoundTold.{load_is}
+use Rattle.worker_loop.proofs.Tallied as tallied
+use Rattle.rsspp_run.proofs.WorkedFew.{worked_whole}
 use Rattle.rsspp_run.proofs.Told.{entries_told}
 
 maps_same : {A B C : Type 0} (p : A → C) (q : B → C) (xs : List A) (ys : List B) (a : A) (b : B) → length xs ≡ length ys → ((c : ℕ) → c < length xs → p (get_or xs c a) ≡ q (get_or ys c b)) → map p xs ≡ map q ys
@@ -47,17 +48,10 @@ module _ {S : Type 0} (packets : Option (List PacketInfo)) (x : Job S) (t : Term
 
   worked_is : map worked_of h.state.machine.cores ≡ map worked_in f.workers
   worked_is = maps_same worked_of worked_in h.state.machine.cores f.workers blank_core (fresh_worker 0 (run_of f.key 0)) (sym are.workers)
-      (λ c near. sym (load_is x h.state f are few c near) ∙ told_at c near)
+      (λ c near. let u = are.each c near in sym (tallied.worked_is x h.state.machine c (scene_at f c) u.tied u.shows ∙ worked_whole h.state.machine c are.sound few))
     where
       few : length h.state.machine.cores ≤ 2 ^ 32
       few = let c = h.by.at.desk.cores in let k = h.tied.tied.sound.table.cores in omega arith
-
-      loads_or : Option (List ℕ) → List ℕ
-      loads_or None = []
-      loads_or (Some ls) = ls
-
-      told_at : (c : ℕ) → c < length h.state.machine.cores → get_or f.meter.loads c 0 ≡ worked_in (worker_at f c)
-      told_at c near = let u = are.each c near in ap (λ (o : Option (List ℕ)). get_or (loads_or o) c 0) u.told.is ∙ u.told.number
 
   logs_are : ((c : ℕ) → c < length f.workers → (worker_at f c).face.short ≡ false) → flat_map (λ (s : Side). s.log) h.state.sides ≡ flat_map log_in f.workers
   logs_are calm = flats_same (λ (s : Side). s.log) log_in h.state.sides f.workers new_side (fresh_worker 0 (run_of f.key 0)) (are.sides ∙ sym are.workers)

@@ -14,7 +14,7 @@ use Rattle.dispatch_loop.specs.declared.dispatcher_turn.DispatcherTurn.TheVarian
 use Rattle.dispatch_loop.specs.Asks.{due_now, owner_at}
 use Rattle.dispatch_loop.specs.Does.{bucket_for, owner_for}
 use Rattle.dispatch_loop.specs.Face.{Face}
-use Rattle.dispatch_loop.specs.Past.{Past, parcel_of, story}
+use Rattle.dispatch_loop.specs.Past.{Past, parcel_of, parcels, story}
 use Rattle.dispatch_loop.specs.Scene as desks
 use Rattle.dispatch_loop.specs.Scene.{Outs}
 use Rattle.dispatch_loop.specs.Rules as turns
@@ -25,12 +25,21 @@ use Rattle.dispatch_loop.specs.Tied.{TiedIn}
 use Rattle.dispatch_loop.proofs.Tells.{tells-on}
 use Rattle.dispatch_loop.proofs.Dues.{round_due}
 use Rattle.rsspp_run.specs.Serial.{Setting, RunState, sent, deed_due, dispatcher_turn, does}
-use Rattle.rsspp_run.specs.Floor.{Floor}
+use Rattle.rsspp_run.specs.Floor.{Floor, lane_at}
 use Rattle.rsspp_run.specs.Desk.{outs_of, IsSending, desk_scene, IsReady, GoesOn}
 use Rattle.rsspp_run.specs.At.{IsAt, HaveRoom}
 use Rattle.rsspp_run.proofs.Asked.{tries_told}
 use Rattle.rsspp_run.proofs.DispatcherRules.{never_full, sent_told, late_told, end_told}
 use Rattle.rsspp_run.proofs.DispatcherThen.{loads_or, acts_short, at_then, core_for, sending_by, turn_then}
+use Rattle.indirection.proofs.Told.{parcels_of-told}
+use Rattle.flow_work.specs.declared.work.TheConstants.{MOST_COST}
+use Rattle.core_queue.specs.declared.item.Seen.{Seen}
+use Rattle.core_queue.specs.Local.{new_lane}
+use Rattle.worker_loop.specs.Counts as counts
+use Rattle.dispatch_loop.specs.Costs.{cost_at, HaveCosts}
+use Rattle.rsspp_run.proofs.BesideWorkers.{lane_is}
+use Rattle.rsspp_run.proofs.TakenCosts.{taken_costs, costs_small}
+use Rattle.std.proofs.lemmas.List.{map-append}
 use Rattle.rsspp_run.proofs.RoundTold.{readings_at, load_is, round_told}
 
 module _ {S : Type 0} (x : Job S) (j : Setting) (r : RunState) (d d' : Face) (f f' : Floor (TableOf S)) (reader reader' : Reading) (left left' : Option (List ℕ)) (faults faults' : ℕ)
@@ -92,7 +101,20 @@ module _ {S : Type 0} (x : Job S) (j : Setting) (r : RunState) (d d' : Face) (f 
         let short : m.desk.short ≡ true = ap (λ (e : Face). e.short) k.desk in
         let z : false ≡ true = sym still ∙ (acts_short turn m (desk_scene d' f' reader' left' faults') a ∙ short) in absurd (cc)
 
-  module _ (packets : Option (List PacketInfo)) (p : Past) (tied : TiedIn packets p (desk_scene d f reader left faults)) (rules : j.rules ≡ rules_of d.terms) (told : r.steps ≡ story d p.packets) where
+  module _ (packets : Option (List PacketInfo)) (p : Past) (tied : TiedIn packets p (desk_scene d f reader left faults)) (rules : j.rules ≡ rules_of d.terms) (told : r.steps ≡ story d p.packets) (all : List PacketInfo) (parcels_are : j.parcels ≡ parcels d.terms all) (rest : List PacketInfo) (goes : all ≡ p.packets ++ rest) (cost : x.cost ≡ d.terms.cost) where
+    -- what each core took costs what the run's packets do
+    have_costs : (c : ℕ) → c < length r.machine.cores → counts.HaveCosts (cost_at j.parcels) x.cost (lane_at f c).eye.taken
+    have_costs c near =
+        let wide = at.workers.lanes in
+        let lane = tied.sent.each c (lane_at f c).eye (lane_is f.lanes c (new_lane f.key 0 0) (omega arith)) in
+        let split : parcels d.terms p.packets ++ parcels d.terms rest ≡ j.parcels = sym (parcels_are ∙ (ap (parcels d.terms) goes ∙ map-append (parcel_of d.terms) p.packets rest)) in
+        let sent = subst (λ (y : List Parcel × List Seen). HaveCosts d.terms.cost y.0 y.1) (λ i. (parcels_of-told d.journal.entries 0 (parcels d.terms p.packets) i, (at.workers.each c near).order i)) lane.costs in
+        subst (λ (y : List Parcel × (PacketInfo → ℕ)). counts.HaveCosts (cost_at y.0) y.1 (lane_at f c).eye.taken) (λ i. (split i, sym cost i))
+        (taken_costs d.terms.cost (parcels d.terms p.packets) (parcels d.terms rest) (lane_at f c).eye.taken (lane_at f c).items sent)
+
+    small : (b place : ℕ) → cost_at j.parcels b place ≤ MOST_COST
+    small b place = subst (λ (z : List Parcel). cost_at z b place ≤ MOST_COST) (sym parcels_are) (costs_small d.terms tied.sound.cost all b place)
+
     round_steps : (h : IsRoundMade (desk_scene d f reader left faults) (desk_scene d' f' reader' left' faults')) → (deed_due j r (due_now d)).steps ≡ turn_steps (desk_scene d f reader left faults) Round (desk_scene d' f' reader' left' faults') h
     round_steps h =
         let short = (round_due d h.due).0 in
@@ -101,7 +123,7 @@ module _ {S : Type 0} (x : Job S) (j : Setting) (r : RunState) (d d' : Face) (f 
         ap (λ due. (deed_due j r due).steps) h.due
         ∙ ap (λ z. Rounds z ∷ []) (round_told j r d p.packets f.meter.eye rules told tied.dealt tied.loads.wide (tied.lawful short) h.due h.readings h.reads.each
         (λ c near. sym (readings_at f.meter.loads f.meter.eye 0 h.readings c h.reads.answers (omega arith))
-        ∙ (ap (λ (k : ℕ). get_or f.meter.loads k 0) (let q : 0 + c ≡ c = omega arith in q) ∙ load_is x r f at.workers few c (let c = at.desk.cores in omega arith))))
+        ∙ (ap (λ (k : ℕ). get_or f.meter.loads k 0) (let q : 0 + c ≡ c = omega arith in q) ∙ load_is x r f at.workers few (cost_at j.parcels) small have_costs c (let c = at.desk.cores in omega arith))))
 
     steps_told : (turn : DispatcherTurn) → (rule : turns.IsTurn (desk_scene d f reader left faults) turn (desk_scene d' f' reader' left' faults'))
         → ((m : desks.Scene (TableOf S)) → Fetches (desk_scene d f reader left faults) m → IsNext turn m (desk_scene d' f' reader' left' faults') → GoesOn r.machine j.parcels m.desk × ((p : PacketInfo) → bucket_for m.desk p < length r.machine.buckets))

@@ -278,6 +278,7 @@ module _ {S : Type 0} (packets : Option (List PacketInfo)) (x : Job S) (t : Term
               at = record { workers = are; desk = desk_stays s.state c d s.by.at.desk };
               rooms = rooms_then x s.state next f g s.by.at.workers are (worker_keeps x c turn' f g lane did) s.by.rooms;
               is_of = worker_is_of xs (setting_of t pool xs) s.state d.terms c s.by.is_of;
+              cost = s.by.cost;
               told = s.by.told;
             };
             is = λ still. ap (λ (z : RunState). worker_turn z c) (s.is still)
@@ -366,8 +367,9 @@ module _ {S : Type 0} (packets : Option (List PacketInfo)) (x : Job S) (t : Term
           at = some.stands;
           rooms = rooms_then x s.state following f g s.by.at.workers some.stands.workers (dispatcher_keeps d e f g reader reader' left left' faults faults' turn' rule) s.by.rooms;
           is_of = deed_is_of xs (setting_of t pool xs) s.state some.due d.terms e.terms (turn_terms (desk_scene d f reader left faults) (desk_scene e g reader' left' faults') turn' rule) s.by.is_of;
+          cost = s.by.cost ∙ sym (ap (λ (z : Terms). z.cost) (turn_terms (desk_scene d f reader left faults) (desk_scene e g reader' left' faults') turn' rule));
           told = λ still. ap (λ (z : RunState). z.steps) (is_turn still)
-              ∙ (turn_of_run packets (past bytes sent) xs x (setting_of t pool xs) s.state d e f g reader reader' left left' faults faults' s.by.at s.by.rooms key workers_are still tied.tied s.by.is_of (s.by.told (was_open still)) turn' rule ps grows goes).1;
+              ∙ (turn_of_run packets (past bytes sent) xs x (setting_of t pool xs) s.state d e f g reader reader' left left' faults faults' s.by.at s.by.rooms key workers_are still tied.tied s.by.is_of s.by.cost (s.by.told (was_open still)) turn' rule ps grows goes).1;
         };
         is = λ still. is_turn still ∙ (ap (λ (z : RunState). dispatcher_turn (setting_of t pool xs) z) (s.is (was_open still))
             ∙ (sym (ap (turn (setting_of t pool xs) (turns (setting_of t pool xs) y i s.begun)) here) ∙ sym (ap (λ (n : ℕ). turns (setting_of t pool xs) y n s.begun) (add-one i))));

@@ -71,4 +71,4 @@ module _ {S : Type 0} (opening : S) (after : S → PacketInfo → S) (packets : 
       ∙ (ap (λ (n : ℕ). among 0 n (parcels t all)) are.count ∙ run_among t all some)
 
   pub keys_own : (b : ℕ) (table : TableOf S) → slice_get tables b ≡ Some table → All (λ (e : FlowKey × S). HasBucket (run_of t.key (buckets_of t)) b e.0) table.flows
-  keys_own b table is = let h = are.each b table is in keys_in (job opening after packets) (run_of t.key (buckets_of t)) b table h.0.stands h.1
+  keys_own b table is = let h = are.each b table is in keys_in (job opening after (λ _. 0) packets) (run_of t.key (buckets_of t)) b table h.0.stands h.1

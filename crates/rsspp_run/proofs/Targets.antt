@@ -15,7 +15,7 @@ use Rattle.indirection.proofs.OrdersIn.{lawful_orders}
 use Rattle.indirection.proofs.RoundFacts.{lawful_weighing}
 use Rattle.balancer.specs.Greedy.{opening}
 use Rattle.balancer.specs.Moves.{AreMoves}
-use Rattle.balancer.proofs.AllMoves.{greedy_moves}
+use Rattle.balancer.proofs.Proposed.{named_proposals}
 use Rattle.dispatch_loop.specs.Accepted.{IsOrderFor}
 use Rattle.dispatch_loop.specs.Terms.{Terms, IsSound, cores_of, rules_of}
 use Rattle.rsspp_run.specs.Custody.{AreTo}
@@ -51,7 +51,7 @@ module _ (t : Terms) (xs : List Parcel) (j : JournalView) (sound : IsSound t) (l
   entries_to front [] is go = tt
   entries_to front (Round r ∷ es) is go =
       let behind = lawful_weighing (rules_of t) xs j front es r lawful.so_far is in
-      let moves = subst (λ (ps : List Proposal). AreMoves (cores_of t) (length (owners_after j.start (tries front))) ps) (sym behind.proposals) (greedy_moves t.limit (opening (cores_of t) r.loads (owners_after j.start (tries front)))) in
+      let moves = subst (λ (ps : List Proposal). AreMoves (cores_of t) (length (owners_after j.start (tries front))) ps) (sym behind.proposals) (named_proposals t.policy (cores_of t) t.limit r.loads (owners_after j.start (tries front))).moves in
       both_to (cores_of t) (round_tries r.at r.proposals r.outcomes) (tries es) (round_to (cores_of t) (length (owners_after j.start (tries front))) r.at r.proposals r.outcomes moves)
       (entries_to (front ++ Round r ∷ []) es (is ∙ sym (append_assoc front (Round r ∷ []) es)) go)
   entries_to front (Order e ∷ es) is go = (go.0, entries_to (front ++ Order e ∷ []) es (is ∙ sym (append_assoc front (Order e ∷ []) es)) go.1)

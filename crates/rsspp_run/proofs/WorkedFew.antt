@@ -1,5 +1,5 @@
 -- A core works no more packets than were sent.
-use Rattle.std.proofs.Common.{suc, ◌≡◌, ℕ, ◌+◌, ◌≤◌, ◌^◌, if◌then◌else◌, List, [], ◌∷◌, ◌++◌, length, count_by, refl, ap, arith}
+use Rattle.std.proofs.Common.{suc, ◌≡◌, ℕ, ◌+◌, ◌≤◌, ◌^◌, if◌then◌else◌, List, [], ◌∷◌, ◌++◌, length, count_by, sum_by, ◌*◌, refl, ap, arith}
 use Rattle.std.proofs.lemmas.List.Sums.{sum_by-cons}
 use Rattle.indirection.proofs.Tests.{by_test}
 use Rattle.handover_core.specs.declared.item.Kind.TheVariants.{First, Next, Mark}
@@ -10,7 +10,8 @@ use Rattle.handover_core.specs.Dispatch.{stream}
 use Rattle.handover_core.specs.State.{MachineView, core_at}
 use Rattle.handover_core.specs.Sound.{IsSound, is_mark}
 use Rattle.worker_loop.specs.Counts.{more}
-use Rattle.worker_loop.specs.Schedule.{is_packet, worked_of}
+use Rattle.worker_loop.specs.Schedule.{is_packet, worked_of, item_cost, worked_cost}
+use Rattle.flow_work.specs.declared.work.TheConstants.{MOST_COST}
 
 packets_in : List Item → ℕ
 packets_in [] = 0
@@ -64,6 +65,32 @@ worked_few m c sound =
     let few = sent_packets c m.dispatched in
     let sent = sound.shaped.sent in
     omega arith
+
+-- what the packets cost that a core has worked
+
+items_small : (costs : ℕ → ℕ → ℕ) → ((b place : ℕ) → costs b place ≤ MOST_COST) → (xs : List Item) → sum_by (item_cost costs) xs ≤ MOST_COST * packets_in xs
+unfolding packets_in
+items_small costs small [] = omega arith
+items_small costs small (Of First b place ∷ xs) = let ih = items_small costs small xs in let s = sum_by-cons (item_cost costs) (Of First b place) xs in let c = small b place in omega arith
+items_small costs small (Of Next b place ∷ xs) = let ih = items_small costs small xs in let s = sum_by-cons (item_cost costs) (Of Next b place) xs in let c = small b place in omega arith
+items_small costs small (Of Mark b place ∷ xs) = let ih = items_small costs small xs in let s = sum_by-cons (item_cost costs) (Of Mark b place) xs in omega arith
+items_small costs small (End ∷ xs) = let ih = items_small costs small xs in let s = sum_by-cons (item_cost costs) End xs in omega arith
+
+-- at most the greatest cost for each packet that was sent, and for each core
+pub cost_few : (costs : ℕ → ℕ → ℕ) → ((b place : ℕ) → costs b place ≤ MOST_COST) → (m : MachineView) (c : ℕ) → IsSound m → worked_cost costs (core_at m c) ≤ MOST_COST * (length m.packets + length m.cores)
+cost_few costs small m c sound =
+    let posts = sound.posts in let moves = sound.counted.moves in
+    let each = items_small costs small (core_at m c).taken in
+    let front = front_packets (core_at m c).taken (core_at m c).queue in
+    let all = ap packets_in (sound.streamed.streams c) in
+    let marks = counted_marks m.dispatched in
+    let few = sent_packets c m.dispatched in
+    let sent = sound.shaped.sent in
+    omega arith
+
+-- so the cost that the worker notes is what its core has worked
+pub cost_whole : (costs : ℕ → ℕ → ℕ) → ((b place : ℕ) → costs b place ≤ MOST_COST) → (m : MachineView) (c : ℕ) → IsSound m → length m.cores ≤ 2 ^ 32 → more 0 (worked_cost costs (core_at m c)) ≡ worked_cost costs (core_at m c)
+cost_whole costs small m c sound cores = let w = cost_few costs small m c sound in let few = sound.shaped.few in omega arith
 
 -- so the worker's count is what its core has worked
 pub worked_whole : (m : MachineView) (c : ℕ) → IsSound m → length m.cores ≤ 2 ^ 32 → more 0 (worked_of (core_at m c)) ≡ worked_of (core_at m c)

@@ -13,7 +13,7 @@ use Rattle.packet_pool.specs.PoolEye.{store}
 use Rattle.core_queue.specs.declared.item.Seen.{Seen}
 use Rattle.core_queue.specs.Cells.{plain}
 use Rattle.core_queue.specs.declared.eye.LaneEye.{LaneEye}
-use Rattle.core_queue.specs.LaneEye.{Lane, lane}
+use Rattle.core_queue.specs.LaneEye.{Lane, lane, InOrder}
 use Rattle.core_queue.specs.Local.{LocalState, new_lane}
 use Rattle.handover_words.specs.LocalShelf.{LocalView}
 use Rattle.handover_words.specs.Stock.{stock}
@@ -63,15 +63,16 @@ module _ {T : Type 0} where
   abbrev pub scene_at : Floor T → ℕ → Scene T
   scene_at f c = over (worker_at f c) (lane_at f c) f.shelf f.meter
 
--- the worker of a core stands as the run says: it is the core of the machine, with its line and its log, it keeps no cell, and the meter tells what it has worked; its lane was sent what the machine sent the core, and its log has the custodies of what it took
+-- the worker of a core stands as the run says: it is the core of the machine, with its line and its log, it keeps no cell, and the meter tells what the packets cost that it has worked; its lane was sent what the machine sent the core, which is what was taken and then what it holds, and its log has the custodies of what it took
 pub record IsWorkerBy {S : Type 0} (x : Job S) (r : RunState) (c : ℕ) (w : WorkerView (TableOf S)) (l : LocalState) (v : LocalView (TableOf S)) (m : MeterState) : Type 0 where
   pub tied : Tied x w.face l.eye v.eye m.eye
   pub shows : Shows r.machine c (over w l v m)
   pub kept : w.kept ≡ []
   pub line : (side_at r c).line ≡ w.face.lot.waiting
   pub log : w.face.short ≡ false → (side_at r c).log ≡ w.face.log
-  pub told : Tells (Some m.loads) c w.face.worked
+  pub told : Tells (Some m.loads) c w.face.cost
   pub sent : map plain l.eye.sent ≡ stream c r.machine.dispatched
+  pub order : InOrder l.eye (now_of l)
   pub spans : LogHasSpans w.face l.eye
   pub entries : AreEntries w.face.core w.face.run.buckets w.face.log
 

@@ -43,11 +43,12 @@ to_try d = length d.orders + length d.proposals + (18 * (d.terms.packets - d.sen
 abbrev pub to_do : RunState → Face → ℕ
 to_do r d = steps_left r.machine + to_try d
 
--- workers and dispatcher stand as the run of these packets says, and the run's steps are the dispatcher's story, unless it is short of memory
+-- workers and dispatcher stand as the run of these packets says, a packet costs them the same, and the run's steps are the dispatcher's story, unless it is short of memory
 pub record IsRunBy {S : Type 0} (x : Job S) (xs sent : List PacketInfo) (j : Setting) (r : RunState) (d : Face) (f : Floor (TableOf S)) : Type 0 where
   pub at : IsAt x r d f
   pub rooms : HaveRoom r f
   pub is_of : IsRunOf xs j r d.terms
+  pub cost : x.cost ≡ d.terms.cost
   pub told : d.short ≡ false → r.steps ≡ story d sent
 
 -- so the run stands after k sweeps

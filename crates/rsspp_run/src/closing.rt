@@ -5,6 +5,7 @@ ghost use Rattle.handover_words.specs.Stands.{IsTableOf};
 ghost use Rattle.packet_fields.specs.declared.packet.PacketInfo.{PacketInfo};
 ghost use Rattle.pcap_reader.specs.Reading.{Reading};
 ghost use Rattle.worker_loop.specs.Job.{job};
+ghost use Rattle.dispatch_loop.specs.Face.{face_by};
 ghost use Rattle.dispatch_loop.specs.declared.dispatcher_end.DispatcherEnd.TheVariants.{AtEnd};
 ghost use Rattle.dispatch_loop.specs.Terms.{buckets_of};
 ghost use Rattle.rsspp_run.specs.Custody.{IsOrdered};
@@ -13,6 +14,7 @@ ghost use Rattle.rsspp_run.specs.Sweeps.{Course, Ends};
 
 use crate::RunEnd;
 use crate::crew::Crew;
+use balancer::Balancer;
 use bucket_table::{BucketTable, Custody};
 use dispatch_loop::Dispatcher;
 use flow_work::FlowWork;
@@ -112,12 +114,12 @@ pub(crate) fn tables_of<W: FlowWork, N: RunName>(
 /// What a run that has ended came to, unless a table, a log or the journal is short of memory.
 pub(crate) fn finish<W: FlowWork, N: RunName>(
     alloc: Global,
-    dispatcher: Dispatcher,
+    dispatcher: Dispatcher<W, Balancer>,
     crew: Crew<W, N>,
     buckets: u16,
 ) -> Result<RunEnd<W>, NoMemory>
-    requires ended { (run : Course) × (reader : Reading) × (left : Option (List ℕ)) × Ends N.packets (job W.opening W.after N.packets) run AtEnd dispatcher crew reader left × (buckets ≡ buckets_of run.terms) }
-    ensures run { IfOk result (λ end. (run : Course) (reader : Reading) (left : Option (List ℕ)) → (ended : Ends N.packets (job W.opening W.after N.packets) run AtEnd dispatcher crew reader left)
+    requires ended { (run : Course) × (reader : Reading) × (left : Option (List ℕ)) × Ends N.packets (job W.opening W.after W.cost_of N.packets) run AtEnd (face_by W.cost_of dispatcher) crew reader left × (buckets ≡ buckets_of run.terms) }
+    ensures run { IfOk result (λ end. (run : Course) (reader : Reading) (left : Option (List ℕ)) → (ended : Ends N.packets (job W.opening W.after W.cost_of N.packets) run AtEnd (face_by W.cost_of dispatcher) crew reader left)
         → IsSerialRun run.terms run.pool run.number ended.sent end.journal end.custody.items end.worked.items × AreTablesOf W.opening W.after N.packets run.terms ended.sent end.tables.items) }
     ensures alone { IfOk result (λ end. (end.notes.items ≡ []) × (end.shelf ≡ None)) }
 {

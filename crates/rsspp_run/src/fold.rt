@@ -9,17 +9,19 @@ ghost use Rattle.rsspp_run.specs.OneTable.{AreAll, IsFilling, IsOneTable};
 
 use crate::RunFault;
 use crate::run_end::refused;
-use bucket_table::BucketTable;
+use bucket_table::{BucketTable, FlowHashKey};
 use dispatch_loop::{DispatcherEnd, read_next};
 use flow_work::FlowWork;
 use pcap_reader::Reader;
 use rss_base::Source;
 use std::alloc::Global;
 
-/// Works all packets of a capture in one table, in order. Record number `packets` is one too many.
+/// Works all packets of a capture in one table, in order, which hashes by the numbers handed in.
+/// Record number `packets` is one too many.
 pub fn one_thread<S: Source, W: FlowWork>(
     alloc: Global,
     packets: u32,
+    hashing: &FlowHashKey,
     work: &W,
     source: &mut S,
 ) -> Result<BucketTable<W>, RunFault>
@@ -29,7 +31,7 @@ pub fn one_thread<S: Source, W: FlowWork>(
     ensures cause { HasRunCause (S.faults source.old) (S.faults source.new) result }
     ensures origin { S.origin source.new ≡ S.origin source.old }
 {
-    let mut table = BucketTable::new(alloc, 0)?;
+    let mut table = BucketTable::new(alloc, 0, hashing)?;
     let mut reader = Reader::start(alloc, source)?;
     table.begin_custody(0);
     let end = work_stream(packets, work, &mut table, &mut reader, source);

@@ -13,7 +13,8 @@ use crate::closing::finish;
 use crate::crew::Crew;
 use crate::run_end::refused;
 use crate::{RunEnd, RunFault};
-use dispatch_loop::{Dispatcher, Options};
+use bucket_table::FlowHashKey;
+use dispatch_loop::{Dispatcher, Options, policy_of};
 use flow_work::FlowWork;
 use packet_fields::RunName;
 use pcap_reader::Reader;
@@ -21,11 +22,13 @@ use rss_base::Source;
 use std::alloc::Global;
 
 /// Runs the dispatcher and its workers on one thread, in sweeps that the number orders, until all
-/// have finished. A run whose stream ended by a fault is refused with that fault, and a run with a
+/// have finished. Nothing that it answers depends on the numbers that its tables hash by. A run
+/// whose stream ended by a fault is refused with that fault, and a run with a
 /// table, a log or a journal that is short of memory with `NoMemory`.
 pub fn run_serial<N: RunName, S: Source, W: FlowWork>(
     alloc: Global,
     options: &Options,
+    hashing: &FlowHashKey,
     work: &W,
     source: &mut S,
     number: u32,
@@ -33,8 +36,8 @@ pub fn run_serial<N: RunName, S: Source, W: FlowWork>(
     requires accepted { IsAccepted options.now }
     requires named { AreNamed N.packets options.now.packets (S.left source.old) }
     ensures run { IfOk result (λ end. (all : List PacketInfo) × AreAll options.now.packets (S.left source.old) all
-        × IsSerialRun (terms_of options.now) options.now.pool number all end.journal end.custody.items end.worked.items
-        × AreTablesOf W.opening W.after N.packets (terms_of options.now) all end.tables.items) }
+        × IsSerialRun (terms_of W.cost_of options.now) options.now.pool number all end.journal end.custody.items end.worked.items
+        × AreTablesOf W.opening W.after N.packets (terms_of W.cost_of options.now) all end.tables.items) }
     ensures alone { IfOk result (λ end. (end.notes.items ≡ []) × (end.shelf ≡ None)) }
     ensures end { OnOk result (IsAtEnd (S.left source.new)) }
     ensures refused { IfErr result (λ fault. Refuses options.now.packets (S.left source.old) (S.left source.new) fault) }
@@ -44,8 +47,9 @@ pub fn run_serial<N: RunName, S: Source, W: FlowWork>(
     ensures cause { HasRunCause (S.faults source.old) (S.faults source.new) result }
     ensures origin { S.origin source.new ≡ S.origin source.old }
 {
-    let mut dispatcher = Dispatcher::new(alloc, options)?;
-    let mut crew = Crew::<W, N>::new(alloc, options)?;
+    let policy = policy_of(alloc, options)?;
+    let mut dispatcher = Dispatcher::new(alloc, options, policy)?;
+    let mut crew = Crew::<W, N>::new(alloc, options, hashing)?;
     let mut reader = Reader::start(alloc, source)?;
     let end = crew.run_sweeps(&mut dispatcher, number, work, &mut reader, source);
     refused(end)?;

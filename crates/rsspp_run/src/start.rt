@@ -4,7 +4,7 @@ ghost use Rattle.dispatch_loop.specs.Accepted.{IsAccepted};
 ghost use Rattle.rsspp_run.specs.Opening.{AreNewWorkers, AreNewLanes, IsNew};
 
 use crate::crew::Crew;
-use bucket_table::BucketTable;
+use bucket_table::{BucketTable, FlowHashKey};
 use core_queue::LocalLane;
 use dispatch_loop::Options;
 use flow_work::FlowWork;
@@ -55,8 +55,13 @@ fn new_lanes<N: RunName>(
 }
 
 impl<W: FlowWork, N: RunName> Crew<W, N> {
-    /// All workers, lanes, and what they share, with the memory for all that is parked and sent.
-    pub(crate) fn new(alloc: Global, options: &Options) -> Result<Crew<W, N>, NoMemory>
+    /// All workers, lanes, and what they share, with the memory for all that is parked and sent. The
+    /// tables hash by the numbers handed in.
+    pub(crate) fn new(
+        alloc: Global,
+        options: &Options,
+        hashing: &FlowHashKey,
+    ) -> Result<Crew<W, N>, NoMemory>
         requires { IsAccepted options.now }
         ensures { IfOk result (λ crew. IsNew options.now.key (length options.now.start.owners) options.now.cores options.now.pool crew) }
     {
@@ -64,7 +69,7 @@ impl<W: FlowWork, N: RunName> Crew<W, N> {
         let room = options.pool + 1;
         let workers = new_workers(alloc, options.cores, &options.key, buckets)?;
         let lanes = new_lanes(alloc, options.cores, room, &options.key, buckets)?;
-        let shelf = LocalShelf::<BucketTable<W>, N>::new(alloc, &options.key, buckets)?;
+        let shelf = LocalShelf::<BucketTable<W>, N>::new(alloc, &options.key, buckets, hashing)?;
         let pool = LocalPool::new(alloc, options.pool)?;
         let meter = LocalMeter::new(alloc, options.cores)?;
         Ok(Crew {

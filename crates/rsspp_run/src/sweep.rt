@@ -1,6 +1,7 @@
 // A sweep over all parties of a run.
 ghost use Rattle.std.specs.Prelude.{◌≡◌, ◌<◌, ◌≤◌, ◌+◌, ◌/◌, ◌^◌, ℕ, length};
 ghost use Rattle.worker_loop.specs.Job.{job};
+ghost use Rattle.dispatch_loop.specs.Face.{face_by};
 ghost use Rattle.dispatch_loop.specs.Rules.{BlamesRead};
 ghost use Rattle.dispatch_loop.specs.Terms.{cores_of};
 ghost use Rattle.rsspp_run.specs.Serial.{number_after};
@@ -9,6 +10,7 @@ ghost use Rattle.rsspp_run.specs.Sweeps.{Course, Sweeping, InSweep, SweepsOn, En
 
 use crate::crew::Crew;
 use crate::limits::MOST_SWEEPS;
+use balancer::Balancer;
 use dispatch_loop::{Dispatcher, DispatcherEnd, DispatcherTurn};
 use flow_work::FlowWork;
 use packet_fields::RunName;
@@ -74,20 +76,20 @@ impl<W: FlowWork, N: RunName> Crew<W, N> {
     fn give_turn<S: Source>(
         &mut self,
         party: usize,
-        dispatcher: &mut Dispatcher,
+        dispatcher: &mut Dispatcher<W, Balancer>,
         work: &W,
         reader: &mut Reader,
         source: &mut S,
         swept: &mut Swept,
     )
-        requires in_sweep { (run : Course) × (i : ℕ) × InSweep N.packets (job W.opening W.after N.packets) run i swept.old.over swept.old.end dispatcher.old self.old reader.old (S.left source.old) × (party ≡ party_at run i) × (i < cores_of run.terms + 1) }
-        ensures in_sweep { (run : Course) (i : ℕ) → InSweep N.packets (job W.opening W.after N.packets) run i swept.old.over swept.old.end dispatcher.old self.old reader.old (S.left source.old) → party ≡ party_at run i → i < cores_of run.terms + 1
-            → InSweep N.packets (job W.opening W.after N.packets) run (i + 1) swept.new.over swept.new.end dispatcher.new self.new reader.new (S.left source.new) }
+        requires in_sweep { (run : Course) × (i : ℕ) × InSweep N.packets (job W.opening W.after W.cost_of N.packets) run i swept.old.over swept.old.end (face_by W.cost_of dispatcher.old) self.old reader.old (S.left source.old) × (party ≡ party_at run i) × (i < cores_of run.terms + 1) }
+        ensures in_sweep { (run : Course) (i : ℕ) → InSweep N.packets (job W.opening W.after W.cost_of N.packets) run i swept.old.over swept.old.end (face_by W.cost_of dispatcher.old) self.old reader.old (S.left source.old) → party ≡ party_at run i → i < cores_of run.terms + 1
+            → InSweep N.packets (job W.opening W.after W.cost_of N.packets) run (i + 1) swept.new.over swept.new.end (face_by W.cost_of dispatcher.new) self.new reader.new (S.left source.new) }
         ensures blames { (n : ℕ) → BlamesRead dispatcher.old.end n (S.faults source.old) → BlamesRead dispatcher.new.end n (S.faults source.new) }
         ensures origin { S.origin source.new ≡ S.origin source.old }
     {
         if party == 0 {
-            let turn = self.dispatch(dispatcher, reader, source);
+            let turn = self.dispatch(dispatcher, work, reader, source);
             swept.end = finished(turn);
         } else {
             let turn = self.work((party - 1) as u8, work);
@@ -99,15 +101,15 @@ impl<W: FlowWork, N: RunName> Crew<W, N> {
     /// stream ended, where all parties had finished.
     pub(crate) fn sweep<S: Source>(
         &mut self,
-        dispatcher: &mut Dispatcher,
+        dispatcher: &mut Dispatcher<W, Balancer>,
         number: u32,
         work: &W,
         reader: &mut Reader,
         source: &mut S,
     ) -> Option<DispatcherEnd>
-        requires sweeping { (run : Course) × Sweeping N.packets (job W.opening W.after N.packets) run dispatcher.old self.old reader.old (S.left source.old) × (number ≡ number_after run.swept run.number) }
-        ensures swept { (run : Course) → Sweeping N.packets (job W.opening W.after N.packets) run dispatcher.old self.old reader.old (S.left source.old) → number ≡ number_after run.swept run.number
-            → SweepsOn N.packets (job W.opening W.after N.packets) run result dispatcher.new self.new reader.new (S.left source.new) }
+        requires sweeping { (run : Course) × Sweeping N.packets (job W.opening W.after W.cost_of N.packets) run (face_by W.cost_of dispatcher.old) self.old reader.old (S.left source.old) × (number ≡ number_after run.swept run.number) }
+        ensures swept { (run : Course) → Sweeping N.packets (job W.opening W.after W.cost_of N.packets) run (face_by W.cost_of dispatcher.old) self.old reader.old (S.left source.old) → number ≡ number_after run.swept run.number
+            → SweepsOn N.packets (job W.opening W.after W.cost_of N.packets) run result (face_by W.cost_of dispatcher.new) self.new reader.new (S.left source.new) }
         ensures blames { (n : ℕ) → BlamesRead dispatcher.old.end n (S.faults source.old) → BlamesRead dispatcher.new.end n (S.faults source.new) }
         ensures origin { S.origin source.new ≡ S.origin source.old }
     {
@@ -128,15 +130,15 @@ impl<W: FlowWork, N: RunName> Crew<W, N> {
     /// fewer sweeps than the loop allows, since each but the last one takes a step.
     pub(crate) fn run_sweeps<S: Source>(
         &mut self,
-        dispatcher: &mut Dispatcher,
+        dispatcher: &mut Dispatcher<W, Balancer>,
         number: u32,
         work: &W,
         reader: &mut Reader,
         source: &mut S,
     ) -> DispatcherEnd
-        requires sweeping { (run : Course) × Sweeping N.packets (job W.opening W.after N.packets) run dispatcher.old self.old reader.old (S.left source.old) × (run.swept ≡ 0) × (number ≡ run.number) }
-        ensures ended { (run : Course) → Sweeping N.packets (job W.opening W.after N.packets) run dispatcher.old self.old reader.old (S.left source.old) → run.swept ≡ 0 → number ≡ run.number
-            → Ends N.packets (job W.opening W.after N.packets) run result dispatcher.new self.new reader.new (S.left source.new) }
+        requires sweeping { (run : Course) × Sweeping N.packets (job W.opening W.after W.cost_of N.packets) run (face_by W.cost_of dispatcher.old) self.old reader.old (S.left source.old) × (run.swept ≡ 0) × (number ≡ run.number) }
+        ensures ended { (run : Course) → Sweeping N.packets (job W.opening W.after W.cost_of N.packets) run (face_by W.cost_of dispatcher.old) self.old reader.old (S.left source.old) → run.swept ≡ 0 → number ≡ run.number
+            → Ends N.packets (job W.opening W.after W.cost_of N.packets) run result (face_by W.cost_of dispatcher.new) self.new reader.new (S.left source.new) }
         ensures blames { (n : ℕ) → BlamesRead dispatcher.old.end n (S.faults source.old) → BlamesRead dispatcher.new.end n (S.faults source.new) }
         ensures origin { S.origin source.new ≡ S.origin source.old }
     {

@@ -4,7 +4,8 @@ ghost use Rattle.dispatch_loop.specs.Accepted.{IsAccepted};
 ghost use Rattle.dispatch_loop.specs.declared.limits.TheConstants.{LEAST_PACKETS};
 
 use crate::{RunEnd, RunFault, one_thread, run_serial};
-use bucket_table::{BucketTable, Custody};
+use balancer::PolicyName;
+use bucket_table::{BucketTable, Custody, FLOW_HASH_KEY_BYTES, FlowHashKey};
 use dispatch_loop::Options;
 use flow_work::{OrderFold, WorkName};
 use indirection::{Entry, MoveOrder, Outcome, Table};
@@ -59,9 +60,15 @@ fn options(alloc: Global, packets: u32) -> Result<Options, Fail>
         moves: vec![in alloc; there, back]?,
         round: 1_000,
         limit: 4,
+        policy: PolicyName::Greedy,
         pool: 1_024,
         packets,
     })
+}
+
+// Numbers to hash by, which everybody knows.
+fn hashing() -> FlowHashKey {
+    FlowHashKey::from_bytes(&[7; FLOW_HASH_KEY_BYTES])
 }
 
 // What a run over this capture came to, under number 0.
@@ -74,7 +81,14 @@ fn run(
     requires { LEAST_PACKETS ≤ packets }
 {
     let mut source = MemorySource::new(bytes, Vec::new(alloc), fail_at);
-    Ok(run_serial::<NoName, _, _>(alloc, &options(alloc, packets)?, &OrderFold, &mut source, 0))
+    Ok(run_serial::<NoName, _, _>(
+        alloc,
+        &options(alloc, packets)?,
+        &hashing(),
+        &OrderFold,
+        &mut source,
+        0,
+    ))
 }
 
 fn had(core: u8, from: u32, to: u32) -> Custody {
@@ -122,7 +136,7 @@ fn two_handovers_keep_the_order(rt: HostRuntime) -> Result<(), Fail> {
 fn one_thread_folds_alike(rt: HostRuntime) -> Result<(), Fail> {
     let alloc = rt.alloc();
     let mut source = MemorySource::new(capture(alloc)?, Vec::new(alloc), Vec::new(alloc));
-    let table = one_thread(alloc, 6, &OrderFold, &mut source).expect(&rt, "a table");
+    let table = one_thread(alloc, 6, &hashing(), &OrderFold, &mut source).expect(&rt, "a table");
     assert!(rt; folded(&table) == Some(1_784_838_720));
     Ok(())
 }

@@ -51,9 +51,9 @@ pub(crate) fn shifts<
     posts: Vec<Post<Worker<W>, BucketTable<W>>>,
     own: O,
 ) -> (Vec<Post<Worker<W>, BucketTable<W>>>, B)
-    requires posts { ArePosts (job W.opening W.after N.packets) floor.now posts.items }
+    requires posts { ArePosts (job W.opening W.after W.cost_of N.packets) floor.now posts.items }
     requires own { O.pre own }
-    ensures posts { ArePosts (job W.opening W.after N.packets) floor.now result.0.items }
+    ensures posts { ArePosts (job W.opening W.after W.cost_of N.packets) floor.now result.0.items }
     ensures count { length result.0.items ≡ length posts.items }
     ensures room { vec_capacity result.0 ≡ vec_capacity posts }
     ensures own { O.post own result.1 }
@@ -62,8 +62,8 @@ pub(crate) fn shifts<
         rt,
         posts,
         &|post: Post<Worker<W>, BucketTable<W>>| -> Post<Worker<W>, BucketTable<W>>
-            requires { IsPost (job W.opening W.after N.packets) floor.now post }
-            ensures { (result.core ≡ post.core) × IsPost (job W.opening W.after N.packets) floor.entry.now result }
+            requires { IsPost (job W.opening W.after W.cost_of N.packets) floor.now post }
+            ensures { (result.core ≡ post.core) × IsPost (job W.opening W.after W.cost_of N.packets) floor.entry.now result }
         { work_shift(rt, floor, work, gate, post) },
         own,
     )

@@ -20,8 +20,8 @@ pub(crate) fn work_shift<W: FlowWork + Drop, N: RunName + Drop, G: Gate, R: Wait
     gate: &G,
     post: Post<Worker<W>, BucketTable<W>>,
 ) -> Post<Worker<W>, BucketTable<W>>
-    requires { IsPost (job W.opening W.after N.packets) floor.now post }
-    ensures { (result.core ≡ post.core) × IsPost (job W.opening W.after N.packets) floor.now result }
+    requires { IsPost (job W.opening W.after W.cost_of N.packets) floor.now post }
+    ensures { (result.core ≡ post.core) × IsPost (job W.opening W.after W.cost_of N.packets) floor.now result }
 {
     let Post {
         core,

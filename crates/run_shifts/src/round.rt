@@ -1,10 +1,11 @@
 ghost use Rattle.std.specs.Prelude.{◌≡◌, IfSome, length};
 ghost use Rattle.bucket_table.specs.Table.{TableOf};
 ghost use Rattle.worker_loop.specs.Job.{job};
+ghost use Rattle.dispatch_loop.specs.Face.{face_by};
 ghost use Rattle.dispatch_loop.specs.Stays.{IsTied};
 ghost use Rattle.run_shifts.specs.Desks.{Leads, HasFinished};
 ghost use Rattle.run_shifts.specs.Lends.{MayLend, Lent};
-ghost use Rattle.run_shifts.specs.Places.{at_desk, SameEnds};
+ghost use Rattle.run_shifts.specs.Places.{at_desk, station_by, SameEnds};
 ghost use Rattle.run_shifts.specs.Posts.{ArePosts};
 
 use crate::all_shifts::shifts;
@@ -47,9 +48,9 @@ fn round_with<
     desk: &mut D,
     f: &F,
 ) -> (Vec<Post<Worker<W>, BucketTable<W>>>, A)
-    requires posts { ArePosts (job W.opening W.after N.packets) floor.now posts.items }
+    requires posts { ArePosts (job W.opening W.after W.cost_of N.packets) floor.now posts.items }
     requires may { MayLend (λ p q. F.pre f.now p q) desk.old source.old }
-    ensures posts { ArePosts (job W.opening W.after N.packets) floor.now result.0.items }
+    ensures posts { ArePosts (job W.opening W.after W.cost_of N.packets) floor.now result.0.items }
     ensures count { length result.0.items ≡ length posts.items }
     ensures lent { Lent (λ p q r p' q'. F.post f.now p q r p' q') desk.old source.old result.1 desk.new source.new }
 {
@@ -90,13 +91,13 @@ pub(crate) fn one_round<
     posts: Vec<Post<Worker<W>, BucketTable<W>>>,
     desk: &mut Desk<'a, W, N, R>,
 ) -> (Vec<Post<Worker<W>, BucketTable<W>>>, Option<DispatcherEnd>)
-    requires posts { ArePosts (job W.opening W.after N.packets) floor.now posts.items }
-    requires tied { IsTied N.packets (at_desk {T = TableOf W.State} desk.old (S.left source.old) (S.faults source.old)) }
-    ensures posts { ArePosts (job W.opening W.after N.packets) floor.now result.0.items }
+    requires posts { ArePosts (job W.opening W.after W.cost_of N.packets) floor.now posts.items }
+    requires tied { IsTied N.packets (at_desk {T = TableOf W.State} (station_by W.cost_of desk.old) (S.left source.old) (S.faults source.old)) }
+    ensures posts { ArePosts (job W.opening W.after W.cost_of N.packets) floor.now result.0.items }
     ensures count { length result.0.items ≡ length posts.items }
-    ensures leads { Leads N.packets (at_desk {T = TableOf W.State} desk.old (S.left source.old) (S.faults source.old)) (at_desk desk.new (S.left source.new) (S.faults source.new)) }
-    ensures finished { IfSome result.1 (λ end. HasFinished end desk.new.face) }
-    ensures ends { SameEnds desk.old desk.new }
+    ensures leads { Leads N.packets (at_desk {T = TableOf W.State} (station_by W.cost_of desk.old) (S.left source.old) (S.faults source.old)) (at_desk (station_by W.cost_of desk.new) (S.left source.new) (S.faults source.new)) }
+    ensures finished { IfSome result.1 (λ end. HasFinished end (face_by W.cost_of desk.new.dispatcher)) }
+    ensures ends { SameEnds (station_by W.cost_of desk.old) (station_by W.cost_of desk.new) }
     ensures origin { S.origin source.new ≡ S.origin source.old }
 {
     round_with(
@@ -108,11 +109,11 @@ pub(crate) fn one_round<
         posts,
         desk,
         &|desk: &mut Desk<'_, W, N, R>, source: &mut S| -> Option<DispatcherEnd>
-            requires { IsTied N.packets (at_desk {T = TableOf W.State} desk.old (S.left source.old) (S.faults source.old)) }
-            ensures leads { Leads N.packets (at_desk {T = TableOf W.State} desk.old (S.left source.old) (S.faults source.old)) (at_desk desk.new (S.left source.new) (S.faults source.new)) }
-            ensures finished { IfSome result (λ end. HasFinished end desk.new.face) }
-            ensures ends { SameEnds desk.old desk.new }
+            requires { IsTied N.packets (at_desk {T = TableOf W.State} (station_by W.cost_of desk.old) (S.left source.old) (S.faults source.old)) }
+            ensures leads { Leads N.packets (at_desk {T = TableOf W.State} (station_by W.cost_of desk.old) (S.left source.old) (S.faults source.old)) (at_desk (station_by W.cost_of desk.new) (S.left source.new) (S.faults source.new)) }
+            ensures finished { IfSome result (λ end. HasFinished end (face_by W.cost_of desk.new.dispatcher)) }
+            ensures ends { SameEnds (station_by W.cost_of desk.old) (station_by W.cost_of desk.new) }
             ensures origin { S.origin source.new ≡ S.origin source.old }
-        { dispatch_shift(rt, desk, source) },
+        { dispatch_shift(rt, desk, work, source) },
     )
 }

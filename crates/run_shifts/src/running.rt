@@ -1,9 +1,10 @@
 ghost use Rattle.std.specs.Prelude.{◌≡◌, IsTrue, length};
 ghost use Rattle.bucket_table.specs.Table.{TableOf};
 ghost use Rattle.worker_loop.specs.Job.{job};
+ghost use Rattle.dispatch_loop.specs.Face.{face_by};
 ghost use Rattle.dispatch_loop.specs.Stays.{IsTied};
 ghost use Rattle.run_shifts.specs.Desks.{Leads, HasFinished};
-ghost use Rattle.run_shifts.specs.Places.{at_desk, SameEnds};
+ghost use Rattle.run_shifts.specs.Places.{at_desk, station_by, SameEnds};
 ghost use Rattle.run_shifts.specs.Posts.{ArePosts, HaveEnded};
 
 use crate::desk::Desk;
@@ -48,13 +49,13 @@ pub fn run_shifts<
     mut posts: Vec<Post<Worker<W>, BucketTable<W>>>,
     desk: &mut Desk<'a, W, N, R>,
 ) -> (Vec<Post<Worker<W>, BucketTable<W>>>, DispatcherEnd)
-    requires posts { ArePosts (job W.opening W.after N.packets) floor.now posts.items }
-    requires tied { IsTied N.packets (at_desk {T = TableOf W.State} desk.old (S.left source.old) (S.faults source.old)) }
-    ensures posts { ArePosts (job W.opening W.after N.packets) floor.now result.0.items }
+    requires posts { ArePosts (job W.opening W.after W.cost_of N.packets) floor.now posts.items }
+    requires tied { IsTied N.packets (at_desk {T = TableOf W.State} (station_by W.cost_of desk.old) (S.left source.old) (S.faults source.old)) }
+    ensures posts { ArePosts (job W.opening W.after W.cost_of N.packets) floor.now result.0.items }
     ensures count { length result.0.items ≡ length posts.items }
-    ensures leads { Leads N.packets (at_desk {T = TableOf W.State} desk.old (S.left source.old) (S.faults source.old)) (at_desk desk.new (S.left source.new) (S.faults source.new)) }
-    ensures finished { HasFinished result.1 desk.new.face }
-    ensures ends { SameEnds desk.old desk.new }
+    ensures leads { Leads N.packets (at_desk {T = TableOf W.State} (station_by W.cost_of desk.old) (S.left source.old) (S.faults source.old)) (at_desk (station_by W.cost_of desk.new) (S.left source.new) (S.faults source.new)) }
+    ensures finished { HasFinished result.1 (face_by W.cost_of desk.new.dispatcher) }
+    ensures ends { SameEnds (station_by W.cost_of desk.old) (station_by W.cost_of desk.new) }
     ensures origin { S.origin source.new ≡ S.origin source.old }
     ensures ended { HaveEnded result.0.items }
 {

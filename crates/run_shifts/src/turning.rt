@@ -36,8 +36,8 @@ fn one_turn<
     meter: &mut M,
     gate: &G,
 ) -> WorkerTurn
-    requires { IsAtWork (job W.opening W.after N.packets) worker.old.face (LI.eye lane.old) (H.eye shelf.old) (M.eye meter.old) }
-    ensures work { IsAtWork (job W.opening W.after N.packets) worker.new.face (LI.eye lane.new) (H.eye shelf.new) (M.eye meter.new) }
+    requires { IsAtWork (job W.opening W.after W.cost_of N.packets) worker.old.face (LI.eye lane.old) (H.eye shelf.old) (M.eye meter.old) }
+    ensures work { IsAtWork (job W.opening W.after W.cost_of N.packets) worker.new.face (LI.eye lane.new) (H.eye shelf.new) (M.eye meter.new) }
     ensures ended { result ≡ Ended → IsDone worker.new.face (LI.eye lane.new) (H.eye shelf.new) }
     ensures homes { (LI.home lane.new ≡ LI.home lane.old) × (H.home shelf.new ≡ H.home shelf.old) × (M.home meter.new ≡ M.home meter.old) × (P.home pool.new ≡ P.home pool.old) }
     ensures same { (worker.new.face.core ≡ worker.old.face.core) × (worker.new.face.run ≡ worker.old.face.run) }
@@ -66,8 +66,8 @@ pub(crate) fn work_turns<
     meter: &mut M,
     gate: &G,
 ) -> bool
-    requires { IsAtWork (job W.opening W.after N.packets) worker.old.face (LI.eye lane.old) (H.eye shelf.old) (M.eye meter.old) }
-    ensures work { IsAtWork (job W.opening W.after N.packets) worker.new.face (LI.eye lane.new) (H.eye shelf.new) (M.eye meter.new) }
+    requires { IsAtWork (job W.opening W.after W.cost_of N.packets) worker.old.face (LI.eye lane.old) (H.eye shelf.old) (M.eye meter.old) }
+    ensures work { IsAtWork (job W.opening W.after W.cost_of N.packets) worker.new.face (LI.eye lane.new) (H.eye shelf.new) (M.eye meter.new) }
     ensures ended { IsTrue result → IsDone worker.new.face (LI.eye lane.new) (H.eye shelf.new) }
     ensures homes { (LI.home lane.new ≡ LI.home lane.old) × (H.home shelf.new ≡ H.home shelf.old) × (M.home meter.new ≡ M.home meter.old) × (P.home pool.new ≡ P.home pool.old) }
     ensures same { (worker.new.face.core ≡ worker.old.face.core) × (worker.new.face.run ≡ worker.old.face.run) }

@@ -1,3 +1,4 @@
+use balancer::Balancer;
 use bucket_table::BucketTable;
 use core_queue::SenderEnd;
 use dispatch_loop::{Dispatcher, DispatcherTurn};
@@ -14,7 +15,7 @@ use std::sync::Wait;
 /// The dispatcher for two cores with its reader, its source and its ends.
 #[derive(Drop)]
 pub(crate) struct Desk<'a, W: FlowWork, N: RunName, R> {
-    pub(crate) dispatcher: Dispatcher,
+    pub(crate) dispatcher: Dispatcher<W, Balancer>,
     pub(crate) reader: Reader,
     pub(crate) source: MemorySource,
     pub(crate) lanes: Vec<SenderEnd<'a, R, N>>,
@@ -24,6 +25,7 @@ pub(crate) struct Desk<'a, W: FlowWork, N: RunName, R> {
 }
 
 impl<'a, W: FlowWork, N: RunName, R> Model for Desk<'a, W, N, R> {
+    ghost use Rattle.dispatch_loop.specs.Face.{face_by};
     ghost use Rattle.sweep_tests.specs.Desk.{IsDesk};
 
     ghost Value = { Unit {0} };
@@ -31,14 +33,15 @@ impl<'a, W: FlowWork, N: RunName, R> Model for Desk<'a, W, N, R> {
     ghost view = { λ d. tt };
 
     // The dispatcher is tied to its ends.
-    ghost invariant = { λ d. IsDesk N.packets d.dispatcher d.lanes.items d.shelf d.meter d.reader d.source };
+    ghost invariant = { λ d. IsDesk N.packets (face_by W.cost_of d.dispatcher) d.lanes.items d.shelf d.meter d.reader d.source };
 }
 
 impl<'a, W: FlowWork + Drop, N: RunName + Drop, R: Wait> Desk<'a, W, N, R> {
     /// One turn of the dispatcher.
-    pub(crate) fn turn(&mut self) -> DispatcherTurn {
+    pub(crate) fn turn(&mut self, work: &W) -> DispatcherTurn {
         self.dispatcher
             .turn::<N, MemorySource, _, BucketTable<W>, _, _, _>(
+                work,
                 &mut self.reader,
                 &mut self.source,
                 &mut self.lanes,
@@ -49,7 +52,11 @@ impl<'a, W: FlowWork + Drop, N: RunName + Drop, R: Wait> Desk<'a, W, N, R> {
     }
 
     /// Claims a bucket's table where it lies with so many packets done, and leaves the ends.
-    pub(crate) fn leave(self, bucket: u16, place: u32) -> (Dispatcher, Option<BucketTable<W>>) {
+    pub(crate) fn leave(
+        self,
+        bucket: u16,
+        place: u32,
+    ) -> (Dispatcher<W, Balancer>, Option<BucketTable<W>>) {
         let Desk {
             dispatcher,
             reader: _,

@@ -8,7 +8,7 @@ ghost use Rattle.dispatch_loop.specs.Terms.{terms_of};
 ghost use Rattle.worker_loop.specs.Job.{run_of};
 ghost use Rattle.sweep_tests.specs.Opening.{IsForWorker, IsForDispatcher};
 
-use bucket_table::BucketTable;
+use bucket_table::{BucketTable, FLOW_HASH_KEY_BYTES, FlowHashKey};
 use core_queue::{RuledLane, SenderPass, TakerPass};
 use dispatch_loop::Options;
 use flow_work::FlowWork;
@@ -77,16 +77,17 @@ pub(crate) fn open<W: FlowWork + Drop, N: RunName + Drop, R: Wait>(
 ) -> Result<Opened<W, N>, NoMemory>
     requires accepted { IsAccepted options.now }
     requires cores { options.now.cores ≡ 2 }
-    ensures own { IfOk result (λ r. IsForDispatcher (terms_of options.now) r.shared.first r.shared.second r.shared.shelf r.shared.pool r.shared.meter r.own.first r.own.second r.own.seat r.own.cells r.own.load) }
+    ensures own { IfOk result (λ r. IsForDispatcher (terms_of W.cost_of options.now) r.shared.first r.shared.second r.shared.shelf r.shared.pool r.shared.meter r.own.first r.own.second r.own.seat r.own.cells r.own.load) }
     ensures first { IfOk result (λ r. IsForWorker 0 (run_of options.now.key (length options.now.start.owners)) r.shared.first r.shared.shelf r.shared.pool r.shared.meter r.first.taker r.first.seat r.first.cells r.first.load) }
     ensures second { IfOk result (λ r. IsForWorker 1 (run_of options.now.key (length options.now.start.owners)) r.shared.second r.shared.shelf r.shared.pool r.shared.meter r.second.taker r.second.seat r.second.cells r.second.load) }
 {
     let buckets = options.start.buckets();
     let key = &options.key;
+    let hashing = FlowHashKey::from_bytes(&[7; FLOW_HASH_KEY_BYTES]);
     let room = options.pool + 1;
     let (first, first_sender, first_taker) = RuledLane::<N>::new(alloc, room, key, buckets)?;
     let (second, second_sender, second_taker) = RuledLane::<N>::new(alloc, room, key, buckets)?;
-    let (shelf, mut seat) = WordShelf::<BucketTable<W>, N>::new(alloc, buckets, 3, key)?;
+    let (shelf, mut seat) = WordShelf::<BucketTable<W>, N>::new(alloc, buckets, 3, key, &hashing)?;
     let (pool, passes) = RuledPool::new(rt, alloc, options.pool, 3)?;
     let (meter, mut load) = Meter::new(alloc, 2)?;
     let (cells, first_cells, second_cells) = three(passes);

@@ -10,7 +10,7 @@ use crate::desk::Desk;
 use crate::opening::{ForDispatcher, ForWorker, Shared};
 use crate::station::Station;
 use core_queue::{RuledLane, SenderEnd};
-use dispatch_loop::{Dispatcher, Options};
+use dispatch_loop::{Dispatcher, Options, policy_of};
 use flow_work::FlowWork;
 use packet_fields::RunName;
 use pcap_reader::Reader;
@@ -76,7 +76,7 @@ pub(crate) fn desk<'a, W: FlowWork + Drop, N: RunName + Drop, R: Wait>(
     requires accepted { IsAccepted options.now }
     requires cores { options.now.cores ≡ 2 }
     requires named { AreNamed N.packets options.now.packets (Some bytes.items) }
-    requires passes { IsForDispatcher (terms_of options.now) shared.now.first shared.now.second shared.now.shelf shared.now.pool shared.now.meter passes.first passes.second passes.seat passes.cells passes.load }
+    requires passes { IsForDispatcher (terms_of W.cost_of options.now) shared.now.first shared.now.second shared.now.shelf shared.now.pool shared.now.meter passes.first passes.second passes.seat passes.cells passes.load }
 {
     let ForDispatcher {
         first,
@@ -85,7 +85,8 @@ pub(crate) fn desk<'a, W: FlowWork + Drop, N: RunName + Drop, R: Wait>(
         cells,
         load,
     } = passes;
-    let dispatcher = Dispatcher::new(alloc, options)?;
+    let policy = policy_of(alloc, options)?;
+    let dispatcher = Dispatcher::new(alloc, options, policy)?;
     let mut source = MemorySource::new(bytes, Vec::new(alloc), Vec::new(alloc));
     let reader = Reader::start(alloc, &mut source)?;
     let first_end = shared.first.sender(rt, first);

@@ -6,6 +6,7 @@ ghost use Rattle.dispatch_loop.specs.Past.{AreNamed};
 use crate::opening::{Opened, open};
 use crate::parties::{desk, station};
 use crate::sweeps::Parties;
+use balancer::Balancer;
 use bucket_table::BucketTable;
 use dispatch_loop::{Dispatcher, DispatcherEnd, Options};
 use flow_work::FlowWork;
@@ -20,7 +21,7 @@ use worker_loop::Worker;
 pub(crate) struct Ran<W: FlowWork> {
     /// How the stream ended, where all parties finished.
     pub(crate) end: Option<DispatcherEnd>,
-    pub(crate) dispatcher: Dispatcher,
+    pub(crate) dispatcher: Dispatcher<W, Balancer>,
     /// The table of bucket 0, where it lay on the shelf with as many packets done as the run may
     /// have.
     pub(crate) table: Option<BucketTable<W>>,

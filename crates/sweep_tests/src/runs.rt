@@ -4,6 +4,7 @@ ghost use Rattle.dispatch_loop.specs.Accepted.{IsAccepted};
 
 use crate::capture::capture;
 use crate::run::{Ran, run};
+use balancer::PolicyName;
 use bucket_table::{BucketTable, Custody};
 use dispatch_loop::{DispatcherEnd, Options};
 use flow_report::report;
@@ -61,6 +62,7 @@ fn handovers(alloc: Global) -> Result<Options, Fail>
         moves: vec![in alloc; THERE, BACK]?,
         round: 1_000,
         limit: 4,
+        policy: PolicyName::Greedy,
         pool: 16,
         packets: 6,
     })

@@ -29,7 +29,7 @@ impl<'a, W: FlowWork, N: RunName, R> Model for Station<'a, W, N, R> {
     ghost view = { λ s. tt };
 
     // The worker is tied to its ends.
-    ghost invariant = { λ s. Tied (job W.opening W.after N.packets) s.worker.face s.lane.eye s.shelf.eye s.meter.eye };
+    ghost invariant = { λ s. Tied (job W.opening W.after W.cost_of N.packets) s.worker.face s.lane.eye s.shelf.eye s.meter.eye };
 }
 
 impl<'a, W: FlowWork + Drop, N: RunName + Drop, R: Wait> Station<'a, W, N, R> {

@@ -33,7 +33,7 @@ impl<'a, W: FlowWork + Drop, N: RunName + Drop, R: Wait> Parties<'a, W, N, R> {
     // The turn of a party: party 0 is the dispatcher, and party c + 1 is the worker of core c.
     fn give_turn(&mut self, party: u32, work: &W, swept: &mut Swept) {
         if party == 0 {
-            swept.end = finished(self.desk.turn());
+            swept.end = finished(self.desk.turn(work));
             return;
         }
         let turn = if party == 1 {

@@ -22,6 +22,7 @@ use Rattle.worker_loop.specs.Face.{WorkerView}
 use Rattle.worker_loop.specs.Job.{Job, job}
 use Rattle.dispatch_loop.specs.declared.dispatcher_end.DispatcherEnd.TheVariants.{AtEnd}
 use Rattle.dispatch_loop.specs.declared.dispatcher_end.DispatcherEnd.{DispatcherEnd}
+use Rattle.flow_work.specs.declared.work.TheConstants.{MOST_COST}
 use Rattle.dispatch_loop.specs.Accepted.{IsAccepted}
 use Rattle.dispatch_loop.specs.Face.{Face}
 use Rattle.dispatch_loop.specs.Finished.{IsWhole}
@@ -67,22 +68,22 @@ spent j t place ps are ended run c p at =
       worked = done.worked;
     }
 
-module _ {S : Type 0} (opening : S) (after : S → PacketInfo → S) (packets : Option (List PacketInfo)) (o : OptionsView) (accepted : IsAccepted o) (place : Place) (bytes left : Option (List ℕ)) (f : Face) (senders : List AtLane) (ps : List (Post (WorkerView (TableOf S)) (TableOf S)))
-    (h : HasRun packets (terms_of o) bytes AtEnd f (map (λ (a : AtLane). a.eye) senders) left) (still : f.short ≡ false)
-    (posts : ArePosts (job opening after packets) place ps) (ended : HaveEnded ps) (of_run : place.shelf.run.buckets ≡ buckets_of (terms_of o)) (took : map taken_at ps ≡ sent_by senders) (many : length senders ≡ cores_of (terms_of o)) where
+module _ {S : Type 0} (opening : S) (after : S → PacketInfo → S) (cost : PacketInfo → ℕ) (cheap : (p : PacketInfo) → cost p ≤ MOST_COST) (packets : Option (List PacketInfo)) (o : OptionsView) (accepted : IsAccepted o) (place : Place) (bytes left : Option (List ℕ)) (f : Face) (senders : List AtLane) (ps : List (Post (WorkerView (TableOf S)) (TableOf S)))
+    (h : HasRun packets (terms_of cost o) bytes AtEnd f (map (λ (a : AtLane). a.eye) senders) left) (still : f.short ≡ false)
+    (posts : ArePosts (job opening after cost packets) place ps) (ended : HaveEnded ps) (of_run : place.shelf.run.buckets ≡ buckets_of (terms_of cost o)) (took : map taken_at ps ≡ sent_by senders) (many : length senders ≡ cores_of (terms_of cost o)) where
   is_whole : IsWhole (past bytes h.sent) f (map (λ (a : AtLane). a.eye) senders) left
   is_whole = whole packets (past bytes h.sent) f (map (λ (a : AtLane). a.eye) senders) h.shelf h.meter h.reader left h.tied h.finished.ended h.finished.all still
 
   pub all : AreAll o.packets bytes h.sent
-  all = all_read o.packets bytes left h.sent (over_then packets (terms_of o) bytes AtEnd f (map (λ (a : AtLane). a.eye) senders) left h)
+  all = all_read o.packets bytes left h.sent (over_then packets (terms_of cost o) bytes AtEnd f (map (λ (a : AtLane). a.eye) senders) left h)
 
   pub at_end : IsAtEnd left
   at_end = is_whole.read
 
-  lawful : IsLawful (rules_of (terms_of o)) (parcels (terms_of o) h.sent) (journal_view f.journal)
+  lawful : IsLawful (rules_of (terms_of cost o)) (parcels (terms_of cost o) h.sent) (journal_view f.journal)
   lawful = subst (λ (z : Terms). IsLawful (rules_of z) (parcels z h.sent) (journal_view f.journal)) h.terms is_whole.lawful
 
-  under : length h.sent ≤ (terms_of o).packets
+  under : length h.sent ≤ (terms_of cost o).packets
   under = subst (λ (z : Terms). length h.sent ≤ z.packets) h.terms h.tied.few
 
   few : length h.sent ≤ 2 ^ 32
@@ -91,30 +92,30 @@ module _ {S : Type 0} (opening : S) (after : S → PacketInfo → S) (packets : 
   start_is : f.journal.start ≡ o.start
   start_is = h.tied.start ∙ ap (λ (z : Terms). z.start) h.terms
 
-  owners : (b : ℕ) → b < buckets_of (terms_of o) → slice_index f.journal.start.owners b < cores_of (terms_of o)
+  owners : (b : ℕ) → b < buckets_of (terms_of cost o) → slice_index f.journal.start.owners b < cores_of (terms_of cost o)
   owners b near = subst (λ (z : TableView). slice_index z.owners b < o.start.cores) (sym start_is) (accepted.start.owners b 0 near)
 
-  to : AreTo (cores_of (terms_of o)) (tries f.journal.entries)
-  to = tries_to (terms_of o) (parcels (terms_of o) h.sent) (journal_view f.journal) (sound o accepted) lawful
+  to : AreTo (cores_of (terms_of cost o)) (tries f.journal.entries)
+  to = tries_to (terms_of cost o) (parcels (terms_of cost o) h.sent) (journal_view f.journal) (sound cost o cheap accepted) lawful
 
-  sent : (c : ℕ) (s : AtLane) → slice_get senders c ≡ Some s → map plain s.eye.sent ≡ stream_to (terms_of o) h.sent f.journal c
+  sent : (c : ℕ) (s : AtLane) → slice_get senders c ≡ Some s → map plain s.eye.sent ≡ stream_to (terms_of cost o) h.sent f.journal c
   sent c s at =
       let is = is_whole.sent c s.eye (map_at (λ (a : AtLane). a.eye) senders c s at) in
       is ∙ ap (λ (z : Terms). stream_to z h.sent f.journal c) h.terms
 
-  are_spent : (c : ℕ) (p : Post (WorkerView (TableOf S)) (TableOf S)) → slice_get ps c ≡ Some p → IsSpent (terms_of o) c (worker_in p).face (taken_at p) (ended_at p)
-  are_spent c p at = spent (job opening after packets) (terms_of o) place ps posts ended of_run c p at
+  are_spent : (c : ℕ) (p : Post (WorkerView (TableOf S)) (TableOf S)) → slice_get ps c ≡ Some p → IsSpent (terms_of cost o) c (worker_in p).face (taken_at p) (ended_at p)
+  are_spent c p at = spent (job opening after cost packets) (terms_of cost o) place ps posts ended of_run c p at
 
-  module _ (eye : ShelfEye) (tables : List (TableOf S)) (of_key : eye.key ≡ o.key) (of_buckets : eye.buckets ≡ buckets_of (terms_of o)) (gathered : eye.ended ≡ flat_map ended_at ps)
+  module _ (eye : ShelfEye) (tables : List (TableOf S)) (of_key : eye.key ≡ o.key) (of_buckets : eye.buckets ≡ buckets_of (terms_of cost o)) (gathered : eye.ended ≡ flat_map ended_at ps)
       (closes : ClosesShelf (IsTableOf opening after packets) eye [] tables) where
-    pub tables_are : All (λ (u : TableOf S). u.short ≡ false) tables → AreTablesOf opening after packets (terms_of o) h.sent tables
-    tables_are calm = ends.tables_are opening after packets (terms_of o) h.sent eye tables of_key of_buckets closes calm
-        (ends.table_lies (terms_of o) h.sent f.journal worker_in taken_at ended_at ps senders lawful few owners to many sent took are_spent (IsTableOf opening after packets) eye tables of_buckets gathered closes)
+    pub tables_are : All (λ (u : TableOf S). u.short ≡ false) tables → AreTablesOf opening after packets (terms_of cost o) h.sent tables
+    tables_are calm = ends.tables_are opening after packets (terms_of cost o) h.sent eye tables of_key of_buckets closes calm
+        (ends.table_lies (terms_of cost o) h.sent f.journal worker_in taken_at ended_at ps senders lawful few owners to many sent took are_spent (IsTableOf opening after packets) eye tables of_buckets gathered closes)
 
     pub run_is : (custody : List Custody) (worked : List ℕ) (notes : List Noted) (ws : List (WorkerView (TableOf S))) (es : List Stretch)
         → ws ≡ map worker_in ps → All (λ (w : WorkerView (TableOf S)). w.face.short ≡ false) ws → IsOrdered custody → IsPermutation (flat_map log_in ws) custody → worked ≡ map worked_in ws
-        → sent_in notes ≡ sent_by senders → taken_in notes ≡ sent_by senders → eye.ended ≡ es → IsThreadedRun (terms_of o) h.sent f.journal custody worked notes (Some es)
+        → sent_in notes ≡ sent_by senders → taken_in notes ≡ sent_by senders → eye.ended ≡ es → IsThreadedRun (terms_of cost o) h.sent f.journal custody worked notes (Some es)
     run_is custody worked notes ws es are calm ordered permuted counts sent_is taken_is same =
-        subst (λ (z : List Stretch). IsThreadedRun (terms_of o) h.sent f.journal custody worked notes (Some z)) same
-        (ends.threaded_run (terms_of o) h.sent f.journal worker_in taken_at ended_at ps senders lawful few owners to many sent took are_spent custody worked notes ws eye.ended under are calm ordered permuted counts sent_is taken_is
-        (ends.custodies (terms_of o) h.sent f.journal worker_in taken_at ended_at ps senders lawful few owners to many sent took are_spent (IsTableOf opening after packets) eye tables of_buckets gathered closes))
+        subst (λ (z : List Stretch). IsThreadedRun (terms_of cost o) h.sent f.journal custody worked notes (Some z)) same
+        (ends.threaded_run (terms_of cost o) h.sent f.journal worker_in taken_at ended_at ps senders lawful few owners to many sent took are_spent custody worked notes ws eye.ended under are calm ordered permuted counts sent_is taken_is
+        (ends.custodies (terms_of cost o) h.sent f.journal worker_in taken_at ended_at ps senders lawful few owners to many sent took are_spent (IsTableOf opening after packets) eye tables of_buckets gathered closes))

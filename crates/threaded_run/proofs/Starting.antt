@@ -1,6 +1,6 @@
 -- The dispatcher at its desk before its first turn, and what it leaves behind its last one.
 use Rattle.std.proofs.Common.{◌≡◌, ℕ, List, [], ◌∷◌, length, map, Option, Some, refl, sym, ap, ◌∙◌, subst, arith}
-use Rattle.std.specs.Prelude.{slice_get}
+use Rattle.std.specs.Prelude.{◌≤◌, slice_get}
 use Rattle.std.proofs.lemmas.List.{length-map}
 use Rattle.toeplitz.specs.declared.key.Key.{Key}
 use Rattle.bucket_table.specs.Table.{TableOf}
@@ -18,6 +18,7 @@ use Rattle.load_meter.specs.Meter.{AtMeter}
 use Rattle.worker_loop.specs.Face.{WorkerView}
 use Rattle.worker_loop.specs.Job.{Job}
 use Rattle.dispatch_loop.specs.declared.dispatcher_end.DispatcherEnd.{DispatcherEnd}
+use Rattle.flow_work.specs.declared.work.TheConstants.{MOST_COST}
 use Rattle.dispatch_loop.specs.Accepted.{IsAccepted}
 use Rattle.dispatch_loop.specs.Face.{Face}
 use Rattle.dispatch_loop.specs.Fresh.{fresh_face, AreFresh}
@@ -34,22 +35,22 @@ use Rattle.threaded_run.specs.Crew.{IsCrew, IsBack, HasRun}
 use Rattle.threaded_run.specs.Parties.{new_pass, new_passes, IsFreeSeat, AreOfLanes}
 use Rattle.threaded_run.proofs.Lists.{at_map, map_twice}
 
-module _ {S : Type 0} (j : Job S) (packets : Option (List PacketInfo)) (o : OptionsView) (accepted : IsAccepted o) (place : Place) (dispatcher : Face) (senders : List AtLane) (seat : AtShelf) (load : AtMeter) (cells : AtPool) (posts : List (Post (WorkerView (TableOf S)) (TableOf S)))
-    (crew : IsCrew j (terms_of o) place dispatcher senders seat load cells posts) (bytes left : Option (List ℕ)) (reader : Reading) (named : AreNamed packets o.packets bytes)
+module _ {S : Type 0} (j : Job S) (packets : Option (List PacketInfo)) (o : OptionsView) (accepted : IsAccepted o) (cheap : (p : PacketInfo) → j.cost p ≤ MOST_COST) (place : Place) (dispatcher : Face) (senders : List AtLane) (seat : AtShelf) (load : AtMeter) (cells : AtPool) (posts : List (Post (WorkerView (TableOf S)) (TableOf S)))
+    (crew : IsCrew j (terms_of j.cost o) place dispatcher senders seat load cells posts) (bytes left : Option (List ℕ)) (reader : Reading) (named : AreNamed packets o.packets bytes)
     (header : TakesHeader bytes (still reader left) reader.form) (first : (reader.given ≡ 0) × (reader.progress ≡ Going)) where
   abbrev t : Terms
-  t = terms_of o
+  t = terms_of j.cost o
 
-  first_lanes : (c : ℕ) (e : LaneEye) → slice_get (map (λ (a : AtLane). a.eye) senders) c ≡ Some e → e ≡ new_eye o.key (buckets_of (terms_of o))
+  first_lanes : (c : ℕ) (e : LaneEye) → slice_get (map (λ (a : AtLane). a.eye) senders) c ≡ Some e → e ≡ new_eye o.key (buckets_of (terms_of j.cost o))
   first_lanes c e at =
       let a = at_map (λ (a : AtLane). a.eye) senders c e at in
-      let l = at_map (new_pass o.key (buckets_of (terms_of o))) place.lanes c a.0 (ap (λ (z : List AtLane). slice_get z c) (sym crew.senders_are) ∙ a.1) in
+      let l = at_map (new_pass o.key (buckets_of (terms_of j.cost o))) place.lanes c a.0 (ap (λ (z : List AtLane). slice_get z c) (sym crew.senders_are) ∙ a.1) in
       sym a.2 ∙ sym (ap (λ (z : AtLane). z.eye) l.2)
 
-  are_fresh : AreFresh packets bytes (terms_of o) (map (λ (a : AtLane). a.eye) senders) seat.eye load.eye reader left
+  are_fresh : AreFresh packets bytes (terms_of j.cost o) (map (λ (a : AtLane). a.eye) senders) seat.eye load.eye reader left
   are_fresh = record {
     named = named;
-    wide = length-map senders (λ (a : AtLane). a.eye) ∙ (ap length crew.senders_are ∙ (length-map place.lanes (new_pass o.key (buckets_of (terms_of o))) ∙ crew.lanes));
+    wide = length-map senders (λ (a : AtLane). a.eye) ∙ (ap length crew.senders_are ∙ (length-map place.lanes (new_pass o.key (buckets_of (terms_of j.cost o))) ∙ crew.lanes));
     each = λ c e at. let l = first_lanes c e at in record { key = ap (λ (z : LaneEye). z.key) l; buckets = ap (λ (z : LaneEye). z.buckets) l; sent = ap (λ (z : LaneEye). z.sent) l };
     words = crew.seat_is.buckets ∙ ap (λ z. z.buckets) crew.run;
     numbers = let c = crew.load_cores in omega arith;
@@ -59,7 +60,7 @@ module _ {S : Type 0} (j : Job S) (packets : Option (List PacketInfo)) (o : Opti
   }
 
   pub first_tied : Tied packets (past bytes []) dispatcher (map (λ (a : AtLane). a.eye) senders) seat.eye load.eye reader left
-  first_tied = subst (λ (f : Face). Tied packets (past bytes []) f (map (λ (a : AtLane). a.eye) senders) seat.eye load.eye reader left) (sym crew.fresh) (tied-fresh packets bytes (terms_of o) (map (λ (a : AtLane). a.eye) senders) seat.eye load.eye reader left (sound o accepted) are_fresh)
+  first_tied = subst (λ (f : Face). Tied packets (past bytes []) f (map (λ (a : AtLane). a.eye) senders) seat.eye load.eye reader left) (sym crew.fresh) (tied-fresh packets bytes (terms_of j.cost o) (map (λ (a : AtLane). a.eye) senders) seat.eye load.eye reader left (sound j.cost o cheap accepted) are_fresh)
 
 some_homes : (xs ys : List AtLane) → map (λ (e : AtLane). Some e.home) xs ≡ map (λ (e : AtLane). Some e.home) ys → map (λ (e : AtLane). e.home) xs ≡ map (λ (e : AtLane). e.home) ys
 some_homes [] [] same = refl

@@ -131,7 +131,7 @@ pub(crate) fn finish<W: FlowWork + Drop, N: RunName + Drop>(
     mut tables: Vec<BucketTable<W>>,
 ) -> Left<W>
     requires counts { (length senders.items ≡ length floor.lanes) × (length posts.items ≡ length floor.lanes) }
-    requires posts { ArePosts (job W.opening W.after N.packets) floor posts.items }
+    requires posts { ArePosts (job W.opening W.after W.cost_of N.packets) floor posts.items }
     requires ended { HaveEnded posts.items }
     requires senders { AreOfLanes floor.lanes senders.items }
     requires seat { (seat.home ≡ floor.shelf.home) × (seat.eye.held ≡ []) × (seat.eye.ended ≡ []) }

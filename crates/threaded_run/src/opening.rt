@@ -9,7 +9,7 @@ ghost use Rattle.threaded_run.specs.Parties.{IsFreeSeat};
 ghost use Rattle.threaded_run.specs.Opening.{IsNewTaker, IsShared};
 
 use crate::lanes::{Lanes, open_lanes};
-use bucket_table::BucketTable;
+use bucket_table::{BucketTable, FlowHashKey};
 use core_queue::{SenderPass, TakerPass};
 use dispatch_loop::Options;
 use flow_work::FlowWork;
@@ -39,11 +39,13 @@ pub(crate) struct Shared<W: FlowWork, N: RunName> {
 }
 
 /// Lanes with room for all cells of the pool and one End each, the pool, the shelf with an end for
-/// each core and one for the dispatcher, and the meter.
+/// each core and one for the dispatcher, and the meter. The tables on the shelf hash by the numbers
+/// handed in.
 pub(crate) fn open_shared<W: FlowWork + Drop, N: RunName + Drop, R: Wait>(
     rt: &R,
     alloc: Global,
     options: &Options,
+    hashing: &FlowHashKey,
 ) -> Result<Shared<W, N>, NoMemory>
     requires { IsAccepted options.now }
     ensures { IfOk result (λ s. IsShared options.now s.floor s.senders.items s.takers.items s.cells.items s.own_cells s.seat s.load) }
@@ -61,7 +63,7 @@ pub(crate) fn open_shared<W: FlowWork + Drop, N: RunName + Drop, R: Wait>(
         &options.key,
         buckets,
     )?;
-    let (shelf, seat) = WordShelf::new(alloc, buckets, ends, &options.key)?;
+    let (shelf, seat) = WordShelf::new(alloc, buckets, ends, &options.key, hashing)?;
     let (pool, mut cells) = RuledPool::new(rt, alloc, options.pool, ends)?;
     let (meter, load) = Meter::new(alloc, options.cores)?;
     let Some(own_cells) = cells.pop() else {
@@ -101,7 +103,7 @@ pub(crate) fn open_posts<W: FlowWork + Drop, N: RunName + Drop>(
     requires seat { IsFreeSeat floor.now.shelf seat.old }
     requires shares { length takers.items < seat.old.eye.shares }
     requires load { load.old.home ≡ floor.now.meter.home }
-    ensures posts { IfOk result (λ posts. ArePosts (job W.opening W.after N.packets) floor.now posts.items × (length posts.items ≡ length takers.items)) }
+    ensures posts { IfOk result (λ posts. ArePosts (job W.opening W.after W.cost_of N.packets) floor.now posts.items × (length posts.items ≡ length takers.items)) }
     ensures seat { IsFreeSeat floor.now.shelf seat.new }
     ensures shares { IfOk result (λ posts. seat.new.eye.shares + length takers.items ≡ seat.old.eye.shares) }
     ensures load { load.new ≡ load.old }

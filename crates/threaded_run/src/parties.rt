@@ -3,6 +3,7 @@ ghost use Rattle.std.specs.Prelude.{◌≡◌, ◌≤◌, [], length, map, vec_c
 ghost use Rattle.core_queue.specs.RuledLane.{AtLane};
 ghost use Rattle.worker_loop.specs.Job.{job};
 ghost use Rattle.dispatch_loop.specs.Accepted.{IsAccepted};
+ghost use Rattle.dispatch_loop.specs.Face.{face_by};
 ghost use Rattle.dispatch_loop.specs.OptionsView.{OptionsView};
 ghost use Rattle.dispatch_loop.specs.Past.{AreNamed};
 ghost use Rattle.dispatch_loop.specs.Rules.{BlamesRead};
@@ -14,9 +15,10 @@ ghost use Rattle.threaded_run.specs.Crew.{IsCrew, HasRun, IsBack};
 use crate::lanes::ends_of;
 use crate::opening::{Shared, open_posts, open_shared};
 use crate::rooms::list_for;
-use bucket_table::BucketTable;
+use balancer::Balancer;
+use bucket_table::{BucketTable, FlowHashKey};
 use core_queue::SenderPass;
-use dispatch_loop::{Dispatcher, DispatcherEnd, Options};
+use dispatch_loop::{Dispatcher, DispatcherEnd, Options, policy_of};
 use flow_work::FlowWork;
 use handover_words::ShelfSeat;
 use load_meter::MeterSeat;
@@ -35,7 +37,7 @@ use worker_loop::Worker;
 /// ends, and the post of each core.
 #[derive(Drop)]
 pub(crate) struct Crew<W: FlowWork> {
-    pub(crate) dispatcher: Dispatcher,
+    pub(crate) dispatcher: Dispatcher<W, Balancer>,
     pub(crate) senders: Vec<SenderPass>,
     pub(crate) seat: ShelfSeat<BucketTable<W>>,
     pub(crate) load: MeterSeat,
@@ -48,11 +50,13 @@ pub(crate) fn open<W: FlowWork + Drop, N: RunName + Drop, R: Wait>(
     rt: &R,
     alloc: Global,
     options: &Options,
+    hashing: &FlowHashKey,
 ) -> Result<(Floor<W, N>, Crew<W>), NoMemory>
     requires { IsAccepted options.now }
-    ensures { IfOk result (λ r. IsCrew (job W.opening W.after N.packets) (terms_of options.now) r.0 r.1.dispatcher r.1.senders.items r.1.seat r.1.load r.1.cells r.1.posts.items) }
+    ensures { IfOk result (λ r. IsCrew (job W.opening W.after W.cost_of N.packets) (terms_of W.cost_of options.now) r.0 (face_by W.cost_of r.1.dispatcher) r.1.senders.items r.1.seat r.1.load r.1.cells r.1.posts.items) }
 {
-    let dispatcher = Dispatcher::new(alloc, options)?;
+    let policy = policy_of(alloc, options)?;
+    let dispatcher = Dispatcher::new(alloc, options, policy)?;
     let Shared {
         floor,
         senders,
@@ -61,7 +65,7 @@ pub(crate) fn open<W: FlowWork + Drop, N: RunName + Drop, R: Wait>(
         own_cells,
         mut seat,
         mut load,
-    } = open_shared::<W, N, R>(rt, alloc, options)?;
+    } = open_shared::<W, N, R>(rt, alloc, options, hashing)?;
     let posts = open_posts(
         alloc,
         &floor,
@@ -86,7 +90,7 @@ pub(crate) fn open<W: FlowWork + Drop, N: RunName + Drop, R: Wait>(
 /// What the parties leave behind their last shift, and how the stream ended.
 #[derive(Drop)]
 pub(crate) struct Ran<W: FlowWork> {
-    pub(crate) dispatcher: Dispatcher,
+    pub(crate) dispatcher: Dispatcher<W, Balancer>,
     pub(crate) senders: Vec<SenderPass>,
     pub(crate) seat: ShelfSeat<BucketTable<W>>,
     pub(crate) posts: Vec<Post<Worker<W>, BucketTable<W>>>,
@@ -111,13 +115,13 @@ pub(crate) fn run_parties<
     crew: Crew<W>,
     mut passes: Vec<SenderPass>,
 ) -> Result<Ran<W>, RunFault>
-    requires crew { (options : OptionsView) × IsAccepted options × IsCrew (job W.opening W.after N.packets) (terms_of options) floor.now crew.dispatcher crew.senders.items crew.seat crew.load crew.cells crew.posts.items × AreNamed N.packets options.packets (S.left source.old) }
+    requires crew { (options : OptionsView) × IsAccepted options × IsCrew (job W.opening W.after W.cost_of N.packets) (terms_of W.cost_of options) floor.now (face_by W.cost_of crew.dispatcher) crew.senders.items crew.seat crew.load crew.cells crew.posts.items × AreNamed N.packets options.packets (S.left source.old) }
     requires passes { (passes.items ≡ []) × (length crew.senders.items ≤ vec_capacity passes) }
-    ensures posts { IfOk result (λ r. ArePosts (job W.opening W.after N.packets) floor.now r.posts.items × HaveEnded r.posts.items × (length r.posts.items ≡ length crew.posts.items)) }
+    ensures posts { IfOk result (λ r. ArePosts (job W.opening W.after W.cost_of N.packets) floor.now r.posts.items × HaveEnded r.posts.items × (length r.posts.items ≡ length crew.posts.items)) }
     ensures back { IfOk result (λ r. IsBack floor.now crew.senders.items crew.seat r.senders.items r.seat) }
-    ensures run { IfOk result (λ r. HasRun N.packets crew.dispatcher.terms (S.left source.old) r.end r.dispatcher (map (λ (p : AtLane). p.eye) r.senders.items) (S.left source.new)) }
+    ensures run { IfOk result (λ r. HasRun N.packets (face_by W.cost_of crew.dispatcher).terms (S.left source.old) r.end (face_by W.cost_of r.dispatcher) (map (λ (p : AtLane). p.eye) r.senders.items) (S.left source.new)) }
     ensures blames { IfOk result (λ r. BlamesRead (Some r.end) (S.faults source.old) (S.faults source.new)) }
-    ensures refused { IfErr result (λ fault. Refuses crew.dispatcher.terms.packets (S.left source.old) (S.left source.new) fault) }
+    ensures refused { IfErr result (λ fault. Refuses (face_by W.cost_of crew.dispatcher).terms.packets (S.left source.old) (S.left source.new) fault) }
     ensures early { result ≡ Err RunFault.NoMemory → source.new ≡ source.old }
     ensures cause { IfErr result (λ fault. Blames fault (S.faults source.old) (S.faults source.new)) }
     ensures origin { S.origin source.new ≡ S.origin source.old }

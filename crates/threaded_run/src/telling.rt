@@ -4,6 +4,7 @@ ghost use Rattle.rsspp_run.specs.Custody.{IsOrdered};
 ghost use Rattle.rsspp_run.specs.Ends.{log_in, worked_in};
 
 use crate::closing::Left;
+use balancer::Balancer;
 use dispatch_loop::Dispatcher;
 use flow_work::FlowWork;
 use rss_base::NoMemory;
@@ -13,7 +14,7 @@ use std::alloc::Global;
 /// What a run came to, unless a table, a log or the journal is short of memory.
 pub(crate) fn tell<W: FlowWork>(
     alloc: Global,
-    dispatcher: Dispatcher,
+    dispatcher: Dispatcher<W, Balancer>,
     left: Left<W>,
 ) -> Result<RunEnd<W>, NoMemory>
     ensures fine { IfOk result (λ end. (dispatcher.short ≡ false) × All (λ w. w.face.short ≡ false) left.workers.items × All (λ t. t.short ≡ false) left.tables.items) }

@@ -14,6 +14,7 @@ use crate::closing::finish;
 use crate::parties::{Ran, open, run_parties};
 use crate::rooms::Rooms;
 use crate::telling::tell;
+use bucket_table::FlowHashKey;
 use dispatch_loop::Options;
 use flow_work::FlowWork;
 use packet_fields::RunName;
@@ -26,7 +27,8 @@ use std::thread::Threads;
 /// Runs the dispatcher on the caller's thread and each worker in a thread of its own, until all have
 /// ended. Workers that no thread could be made for are run by the caller. All memory of the opening
 /// is taken before the first read. A run with a table, a log or a journal that is short of memory is
-/// `NoMemory`. That it returns isn't claimed.
+/// `NoMemory`. Nothing that it answers depends on the numbers that its tables hash by. That it
+/// returns isn't claimed.
 pub fn run_threads<
     N: RunName + Send + Sync + Drop,
     S: Source,
@@ -37,6 +39,7 @@ pub fn run_threads<
     rt: &R,
     alloc: Global,
     options: &Options,
+    hashing: &FlowHashKey,
     work: &W,
     source: &mut S,
     gate: &G,
@@ -44,8 +47,8 @@ pub fn run_threads<
     requires accepted { IsAccepted options.now }
     requires named { AreNamed N.packets options.now.packets (S.left source.old) }
     ensures run { IfOk result (λ end. (all : List PacketInfo) × AreAll options.now.packets (S.left source.old) all
-        × IsThreadedRun (terms_of options.now) all end.journal end.custody.items end.worked.items end.notes.items end.shelf
-        × AreTablesOf W.opening W.after N.packets (terms_of options.now) all end.tables.items) }
+        × IsThreadedRun (terms_of W.cost_of options.now) all end.journal end.custody.items end.worked.items end.notes.items end.shelf
+        × AreTablesOf W.opening W.after N.packets (terms_of W.cost_of options.now) all end.tables.items) }
     ensures end { OnOk result (IsAtEnd (S.left source.new)) }
     ensures refused { IfErr result (λ fault. Refuses options.now.packets (S.left source.old) (S.left source.new) fault) }
     ensures memory { result ≡ Err RunFault.NoMemory → (source.new ≡ source.old)
@@ -53,7 +56,7 @@ pub fn run_threads<
     ensures cause { HasRunCause (S.faults source.old) (S.faults source.new) result }
     ensures origin { S.origin source.new ≡ S.origin source.old }
 {
-    let (floor, crew) = open::<W, N, R>(rt, alloc, options)?;
+    let (floor, crew) = open::<W, N, R>(rt, alloc, options, hashing)?;
     let Rooms {
         passes,
         notes,

@@ -1,12 +1,10 @@
 -- The keys of a table are those of its packets, so they have its bucket.
-use Rattle.std.proofs.Common.{◌≡◌, ℕ, ◌%◌, Bool, true, false, if◌then◌else◌, List, [], ◌∷◌, ◌++◌, map, fold, refl, sym, subst, All}
+use Rattle.std.proofs.Common.{◌≡◌, ℕ, Bool, true, false, if◌then◌else◌, List, [], ◌∷◌, ◌++◌, fold, sym, subst, All}
 use Rattle.std.specs.List.{list_any}
 use Rattle.std.proofs.lemmas.List.Elements.{All-append, All-map, All-nil, All-cons, All-head, All-tail}
 use Rattle.packet_fields.specs.declared.key.FlowKey.{FlowKey}
 use Rattle.packet_fields.specs.declared.packet.PacketInfo.{PacketInfo}
-use Rattle.toeplitz.specs.declared.key.Key.{Key}
-use Rattle.toeplitz.specs.Packet.{hash_by, packet_hash}
-use Rattle.toeplitz.specs.Bucket.{bucket_of}
+use Rattle.toeplitz.specs.Packet.{packet_hash}
 use Rattle.flow_work.specs.Flow.{flow_state}
 use Rattle.bucket_table.specs.FirstKeys.{same_key, with_key, first_keys}
 use Rattle.bucket_table.specs.Table.{TableOf}

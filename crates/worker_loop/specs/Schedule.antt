@@ -1,16 +1,14 @@
 -- A core's turn in the handover machine: the first of these events that is due.
-use Rattle.std.specs.Prelude.{ℕ, ◌-◌, List, [], ◌∷◌, ◌++◌, length, count_by, sum_by, slice_index, find, if◌then◌else◌, Bool, true, false, Option, Some, None}
+use Rattle.std.specs.Prelude.{ℕ, ◌-◌, List, [], ◌∷◌, ◌++◌, length, count_by, sum_by, find, if◌then◌else◌, Bool, true, false, Option, Some, None}
 use Rattle.indirection.specs.Tries.{upto}
 use Rattle.bucket_table.specs.declared.custody.Custody.{Custody}
 use Rattle.handover_core.specs.declared.item.Kind.TheVariants.{First, Next, Mark}
 use Rattle.handover_core.specs.declared.item.Item.{Item}
 use Rattle.handover_core.specs.declared.item.Item.TheVariants.{Of, End}
 use Rattle.handover_core.specs.declared.event.Event.{Event}
-use Rattle.handover_core.specs.declared.event.Event.TheVariants.{Send, Move, SendEnd, Take, Claim, Release}
-use Rattle.handover_core.specs.State.{Hand, Away, Leaving, CoreState, MachineView, bucket_at, core_at, hand_at, sent_of}
+use Rattle.handover_core.specs.declared.event.Event.TheVariants.{Take, Claim, Release}
+use Rattle.handover_core.specs.State.{Hand, Away, Leaving, CoreState, MachineView, bucket_at, core_at, hand_in, hand_at}
 use Rattle.handover_core.specs.Machine.{has_end, is_empty, is_leaving, waits_for, parked, step}
-use Rattle.handover_core.specs.declared.post.Post.{Post}
-use Rattle.handover_core.specs.Dispatch.{kind_at}
 use Rattle.handover_core.specs.Promises.{item_bucket}
 use Rattle.parked_queue.specs.Parked.{removed}
 use Rattle.worker_loop.specs.Job.{custody}
@@ -78,3 +76,18 @@ is_packet End = false
 -- how many packets a core has worked: those that it took, but for those that are parked
 abbrev pub worked_of : CoreState → ℕ
 worked_of core = count_by is_packet core.taken - sum_by (λ h. length (parked h)) core.hands
+
+-- what an item's packet costs, where `costs` says what a packet costs by its bucket and place
+abbrev pub item_cost : (ℕ → ℕ → ℕ) → Item → ℕ
+item_cost costs (Of First b place) = costs b place
+item_cost costs (Of Next b place) = costs b place
+item_cost costs (Of Mark b place) = 0
+item_cost costs End = 0
+
+-- what the packets cost that a core has parked
+abbrev pub parked_cost : (ℕ → ℕ → ℕ) → CoreState → ℕ
+parked_cost costs core = sum_by (λ b. sum_by (costs b) (parked (hand_in core b))) (upto (length core.hands))
+
+-- what the packets cost that a core has worked: those that it took, but for those that are parked
+abbrev pub worked_cost : (ℕ → ℕ → ℕ) → CoreState → ℕ
+worked_cost costs core = sum_by (item_cost costs) core.taken - parked_cost costs core

@@ -26,12 +26,12 @@ ghost use Rattle.worker_loop.specs.Job.{Job, Run, Stands, run_of};
 ghost use Rattle.worker_loop.specs.Keys.{HasBucket};
 ghost use Rattle.worker_loop.specs.Face.{Face};
 ghost use Rattle.worker_loop.specs.Fresh.{fresh_face};
-ghost use Rattle.worker_loop.specs.Counts.{more, packets_taken};
+ghost use Rattle.worker_loop.specs.Counts.{more, packets_taken, weight_taken, HaveCosts};
 ghost use Rattle.worker_loop.specs.Tied.{Tied, slot_at};
 ghost use Rattle.worker_loop.specs.Scene.{Scene, scene};
 ghost use Rattle.worker_loop.specs.Rules.{IsTurn};
 ghost use Rattle.worker_loop.specs.Promises.{IsBehindMark, IsOver};
-ghost use Rattle.worker_loop.specs.Schedule.{after, worked_of};
+ghost use Rattle.worker_loop.specs.Schedule.{after, worked_of, worked_cost};
 ghost use Rattle.worker_loop.specs.Shows.{Shows, AreInPlace, IsEvent, event_of};
 ghost use Rattle.worker_loop.specs.Turned.{SameRun, SameTaken, SameClaims, SameNoted, KeepsClaims, Tells};
 
@@ -40,14 +40,16 @@ use flow_work::FlowWork;
 /// What a worker that is tied to its ends promises. A table leaves, and so is released, only behind
 /// the mark of its stint, with as many packets done as the mark says, or once End was taken. A turn
 /// is the last one exactly where End was taken and nothing waits, is held or leaves. Where nothing
-/// is parked, each packet that was taken was worked once. Where End was taken, all that was sent was
-/// taken.
+/// is parked, each packet that was taken was worked once, and its cost was added. Where End was
+/// taken, all that was sent was taken.
 pub fn workers_keep_order<W: FlowWork>()
     ensures released { (j : Job W.State) (w : Face (TableOf W.State)) (lane : LaneEye) (shelf : ShelfEye) (meter : LoadEye) (b : ℕ) (t : TableOf W.State)
         → Tied j w lane shelf meter → b < w.run.buckets → slot_at b w ≡ Leaving t → (w.took_end ≡ true) ⊎ IsBehindMark b t.done (cells_at b w.lot) lane.taken }
     ensures ended { (j : Job W.State) (s t : Scene (TableOf W.State)) (turn : WorkerTurn) → IsTurn j s turn t → (turn ≡ Ended) ↔ IsOver s.worker }
     ensures worked { (j : Job W.State) (w : Face (TableOf W.State)) (lane : LaneEye) (shelf : ShelfEye) (meter : LoadEye)
         → Tied j w lane shelf meter → AllEmpty w.lot → w.worked ≡ more 0 (packets_taken lane.taken) }
+    ensures cost { (j : Job W.State) (w : Face (TableOf W.State)) (lane : LaneEye) (shelf : ShelfEye) (meter : LoadEye)
+        → Tied j w lane shelf meter → AllEmpty w.lot → w.cost ≡ more 0 (weight_taken j.cost lane.taken) }
     ensures empty { (j : Job W.State) (w : Face (TableOf W.State)) (lane : LaneEye) (shelf : ShelfEye) (meter : LoadEye)
         → Tied j w lane shelf meter → w.lot.waiting ≡ [] → AllEmpty w.lot }
     ensures whole { (j : Job W.State) (w : Face (TableOf W.State)) (lane : LaneEye) (shelf : ShelfEye) (meter : LoadEye) (rest : List Seen)
@@ -93,15 +95,18 @@ pub fn workers_leave_others<W: FlowWork>()
         → IsTurn j s turn t → d ≢ s.worker.core → Tells s.meter_now d n → Tells t.meter_now d n }
 {}
 
-/// What a worker has worked is what it noted last, what a meter of its own core's tells, and what
-/// its core of the handover machine has worked.
+/// What the packets cost that a worker has worked is what it noted last, and what a meter of its
+/// own core's tells. Its core of the handover machine has worked as many packets, at this cost,
+/// where `costs` says what each packet that was taken costs by its bucket and place.
 pub fn workers_note_all<W: FlowWork>()
     ensures noted { (j : Job W.State) (s t : Scene (TableOf W.State)) (turn : WorkerTurn)
-        → Tied j s.worker s.lane s.shelf s.meter → IsTurn j s turn t → noted_at s.worker.core s.meter ≡ s.worker.worked → noted_at t.worker.core t.meter ≡ t.worker.worked }
+        → Tied j s.worker s.lane s.shelf s.meter → IsTurn j s turn t → noted_at s.worker.core s.meter ≡ s.worker.cost → noted_at t.worker.core t.meter ≡ t.worker.cost }
     ensures told { (j : Job W.State) (s t : Scene (TableOf W.State)) (turn : WorkerTurn)
-        → IsTurn j s turn t → Tells s.meter_now s.worker.core s.worker.worked → Tells t.meter_now t.worker.core t.worker.worked }
+        → IsTurn j s turn t → Tells s.meter_now s.worker.core s.worker.cost → Tells t.meter_now t.worker.core t.worker.cost }
     ensures worked { (j : Job W.State) (m : MachineView) (c : ℕ) (s : Scene (TableOf W.State))
         → Tied j s.worker s.lane s.shelf s.meter → Shows m c s → s.worker.worked ≡ more 0 (worked_of (core_at m c)) }
+    ensures cost { (j : Job W.State) (m : MachineView) (c : ℕ) (s : Scene (TableOf W.State)) (costs : ℕ → ℕ → ℕ)
+        → Tied j s.worker s.lane s.shelf s.meter → Shows m c s → HaveCosts costs j.cost s.lane.taken → s.worker.cost ≡ more 0 (worked_cost costs (core_at m c)) }
 {}
 
 /// What the dispatcher does leaves each worker tied and shown: it sends on the worker's lane, looks

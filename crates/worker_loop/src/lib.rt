@@ -6,7 +6,9 @@
 //! [`Worker::turn`] does the first rule that is due by what its ends answer. Its contract tells each
 //! rule (`specs/Rules.antt`), over the traits of the ends, so that it holds on one thread and of
 //! ends that threads share alike; and it keeps the worker tied to its ends (`specs/Tied.antt`), from
-//! which it follows that each packet finds its table with all before it done.
+//! which it follows that each packet finds its table with all before it done. It counts the packets
+//! that it has worked, and adds up what they cost under its work: the cost is what it notes on its
+//! meter, and the count is what its gate is told.
 #![tactic(auto)]
 
 mod act;

@@ -126,15 +126,15 @@ fn buckets(alloc: Global, count: u32) -> Result<String, Fail> {
 
 #[test]
 fn as_many_buckets_as_there_may_be(rt: HostRuntime) -> Result<(), Fail> {
-    let text = buckets(rt.alloc(), 512)?;
+    let text = buckets(rt.alloc(), 2_048)?;
     assert!(rt; plans(rt.alloc(), &text, "loads 0 0\nimbalance 0\n")?);
     Ok(())
 }
 
 #[test]
 fn one_bucket_more(rt: HostRuntime) -> Result<(), Fail> {
-    let text = buckets(rt.alloc(), 513)?;
-    assert!(rt; is_bad_at(rt.alloc(), text.as_bytes(), 516)?);
+    let text = buckets(rt.alloc(), 2_049)?;
+    assert!(rt; is_bad_at(rt.alloc(), text.as_bytes(), 2_052)?);
     Ok(())
 }
 

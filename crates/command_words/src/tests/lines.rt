@@ -97,8 +97,8 @@ pub const BAD_CORES: [&str; 10] = [
 pub const BAD_BUCKETS: [&str; 5] = [
     "report --buckets 0",
     "report --buckets 3",
-    "report --buckets 513",
-    "report --buckets 1024",
+    "report --buckets 2049",
+    "report --buckets 4096",
     "report --table 9 --buckets=6",
 ];
 
@@ -159,7 +159,7 @@ pub const SCHEDULES: [&str; 7] = [
 
 pub const BOUNDS: [&str; 8] = [
     "report --cores 1 --buckets 1 --table 0 --round 1 --limit 0 --pool 2 --packets 1",
-    "report --cores 64 --buckets 512 --round 1000000 --limit 16 --pool 4096 --packets 4294967295",
+    "report --cores 64 --buckets 2048 --round 1000000 --limit 16 --pool 4096 --packets 4294967295",
     "report --cores 0000000001 --moves 0:127:0,4294967295:0:0",
     "report --buckets 2 --table 3,0000000003 --work count",
     "hash --buckets 4 --work=flags",

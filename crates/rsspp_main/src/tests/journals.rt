@@ -2,7 +2,10 @@
 // worked which packets.
 use crate::tests::answers;
 use crate::tests::captures::{Frame, OTHER, SEGMENT, capture_of};
+use std::alloc::Global;
+use std::sync::Wait;
 use std::test::Fail;
+use std::thread::Threads;
 
 // Six packets of one flow.
 const SIX: [Frame<'static>; 6] = [
@@ -67,6 +70,19 @@ custody 1 0 0 1
 end
 ";
 
+const ONE_ROUND_BY_COSTS: &str = "\
+tcp 38.27.205.30:48228 > 209.142.163.6:2217 order 640
+tcp 66.9.149.187:2794 > 161.142.100.80:1766 order 59580
+total flows 2 packets 4 bytes 820
+journal
+table 0 0
+round 3 loads 2 11 base 11 0
+propose 1 0 1 gain 143 passage 0 1 1
+custody 0 0 0 3
+custody 1 0 0 1
+end
+";
+
 #[test]
 fn two_handovers_keep_the_order(rt: HostRuntime) -> Result<(), Fail> {
     let capture = capture_of(rt.alloc(), &SIX)?;
@@ -111,17 +127,26 @@ fn orders_have_each_outcome(rt: HostRuntime) -> Result<(), Fail> {
     Ok(())
 }
 
-#[test]
-fn a_round_moves_a_bucket(rt: HostRuntime) -> Result<(), Fail> {
+// Whether the serial run of number 0 writes this, over four packets of two flows, with a round
+// behind the third.
+fn round_answers<R: Threads + Wait + Sync>(
+    rt: &R,
+    alloc: Global,
+    work: &str,
+    original_of_other: u32,
+    text: &str,
+) -> Result<bool, Fail> {
     let frames = [
         (&SEGMENT[..], 60),
         (&SEGMENT, 60),
-        (&OTHER, 60),
+        (&OTHER, original_of_other),
         (&SEGMENT, 60),
     ];
-    let capture = capture_of(rt.alloc(), &frames)?;
+    let capture = capture_of(alloc, &frames)?;
     let words = [
         "report",
+        "--work",
+        work,
         "--cores",
         "2",
         "--buckets",
@@ -134,6 +159,17 @@ fn a_round_moves_a_bucket(rt: HostRuntime) -> Result<(), Fail> {
         "0",
         "--journal",
     ];
-    assert!(rt; answers(&rt, rt.alloc(), &words, &capture, 0, ONE_ROUND, "")?);
+    answers(rt, alloc, &words, &capture, 0, text, "")
+}
+
+#[test]
+fn a_round_moves_a_bucket(rt: HostRuntime) -> Result<(), Fail> {
+    assert!(rt; round_answers(&rt, rt.alloc(), "count", 60, ONE_ROUND)?);
+    Ok(())
+}
+
+#[test]
+fn a_round_weighs_costs(rt: HostRuntime) -> Result<(), Fail> {
+    assert!(rt; round_answers(&rt, rt.alloc(), "order", 640, ONE_ROUND_BY_COSTS)?);
     Ok(())
 }

@@ -2,7 +2,7 @@
 ghost use Rattle.std.specs.Prelude.{◌<◌};
 
 use crate::tests::schedules::one_thread_report;
-use crate::tests::{WHOLE, run, run_with};
+use crate::tests::{WHOLE, hashing, run, run_with};
 use flow_work::OrderFold;
 use rss_base::OpenGate;
 use std::alloc::Global;
@@ -73,7 +73,15 @@ fn a_hundred_runs_report_as_one_thread(rt: HostRuntime) -> Result<(), Fail> {
         let made = run(&rt, rt.alloc(), &make, &[], WHOLE)?;
         let text = one_thread_report(rt.alloc(), &OrderFold, &made.out)?;
         let words = words(rt.alloc(), &mut lots)?;
-        let ran = run_with(&rt, rt.alloc(), &words, &made.out, WHOLE, &OpenGate)?;
+        let ran = run_with(
+            &rt,
+            rt.alloc(),
+            &words,
+            Some(hashing(7)),
+            &made.out,
+            WHOLE,
+            &OpenGate,
+        )?;
         assert!(rt; ran.status == 0 && ran.is_told);
         assert!(rt; ran.out.as_slice() == text.as_slice());
     }

@@ -1,6 +1,6 @@
 // Runs whose reports are the same under every number of a schedule.
 use crate::tests::captures::{Frame, SEGMENT, capture_of};
-use crate::tests::{WHOLE, run, run_under};
+use crate::tests::{WHOLE, hashing, run, run_under};
 use flow_report::report;
 use flow_work::{Count, FlowWork, MOST_PACKETS};
 use rss_base::{MemorySink, MemorySource};
@@ -59,7 +59,7 @@ pub fn one_thread_report<W: FlowWork>(
     capture: &[u8],
 ) -> Result<Vec<u8>, Fail> {
     let mut source = MemorySource::new(capture.to_vec(alloc)?, Vec::new(alloc), Vec::new(alloc));
-    let table = one_thread(alloc, MOST_PACKETS, work, &mut source)?;
+    let table = one_thread(alloc, MOST_PACKETS, &hashing(7), work, &mut source)?;
     // A count of 32 bits, as the report asks.
     let _done = table.done();
     let mut out = MemorySink::new(alloc, 1_000_000, Vec::new(alloc))?;

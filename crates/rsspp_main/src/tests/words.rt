@@ -5,7 +5,7 @@ use std::test::Fail;
 
 #[test]
 fn refused_words_say_which(rt: HostRuntime) -> Result<(), Fail> {
-    let lists: [(&[&str], &str); 10] = [
+    let lists: [(&[&str], &str); 11] = [
         (&[], "rsspp: words refused\n"),
         (&["other"], "rsspp: bad mode\n"),
         (&["Report"], "rsspp: bad mode\n"),
@@ -18,6 +18,10 @@ fn refused_words_say_which(rt: HostRuntime) -> Result<(), Fail> {
         (&["report", "--cores", "65"], "rsspp: bad option --cores\n"),
         (
             &["report", "--buckets", "3"],
+            "rsspp: bad option --buckets\n",
+        ),
+        (
+            &["report", "--buckets", "4096"],
             "rsspp: bad option --buckets\n",
         ),
         (
@@ -54,6 +58,16 @@ fn as_many_packets_as_the_limit_are_reported(rt: HostRuntime) -> Result<(), Fail
     let words: [&str; 3] = ["report", "--packets", "3"];
     let text = "tcp 66.9.149.187:2794 > 161.142.100.80:1766 packets 3 bytes 180\n\
         total flows 1 packets 3 bytes 180\n";
+    assert!(rt; answers(&rt, rt.alloc(), &words, &capture, 0, text, "")?);
+    Ok(())
+}
+
+#[test]
+fn the_largest_table_reports_alike(rt: HostRuntime) -> Result<(), Fail> {
+    let capture = capture_of(rt.alloc(), &[(SEGMENT.as_slice(), 60)])?;
+    let words: [&str; 3] = ["report", "--buckets", "2048"];
+    let text = "tcp 66.9.149.187:2794 > 161.142.100.80:1766 packets 1 bytes 60\n\
+        total flows 1 packets 1 bytes 60\n";
     assert!(rt; answers(&rt, rt.alloc(), &words, &capture, 0, text, "")?);
     Ok(())
 }

@@ -4,7 +4,7 @@ ghost use Rattle.toeplitz.specs.declared.key.TheConstants.{DEFAULT_KEY};
 ghost use Rattle.shared_ends.specs.Sides.{IsFreeSeat, IsAt};
 
 use crate::Side;
-use bucket_table::BucketTable;
+use bucket_table::{BucketTable, FLOW_HASH_KEY_BYTES, FlowHashKey};
 use core_queue::{RuledLane, SenderPass, TakerPass};
 use flow_work::FlowWork;
 use handover_words::{ShelfSeat, WordShelf};
@@ -33,7 +33,8 @@ pub(crate) fn shelf_for_two<W: FlowWork, N: RunName>(
     ensures shares { IfOk result (λ r. r.one.eye.shares + r.other.eye.shares ≡ 2) }
     ensures new { IfOk result (λ r. (r.one.eye.ended ≡ []) × (r.other.eye.ended ≡ [])) }
 {
-    let (shelf, mut one) = WordShelf::new(alloc, 1, 2, &DEFAULT_KEY)?;
+    let hashing = FlowHashKey::from_bytes(&[7; FLOW_HASH_KEY_BYTES]);
+    let (shelf, mut one) = WordShelf::new(alloc, 1, 2, &DEFAULT_KEY, &hashing)?;
     let other = shelf.split(alloc, &mut one)?;
     Ok(ForTwo { shelf, one, other })
 }

@@ -1,12 +1,12 @@
-// What a gate is told.
-use super::{new_lane, new_worker};
+// What a gate is told, and what a meter: packets, and their cost.
+use super::{hashing, new_lane, new_worker};
 use crate::WorkerTurn;
 use crate::tests::sending::{send, send_end};
 use crate::tests::turning::turns;
 use bucket_table::BucketTable;
-use flow_work::Count;
+use flow_work::OrderFold;
 use handover_words::LocalShelf;
-use load_meter::LocalMeter;
+use load_meter::{LocalMeter, ReadLoad};
 use packet_fields::NoName;
 use packet_pool::{Kind, LocalPool};
 use rss_base::Gate;
@@ -34,13 +34,16 @@ impl Gate for KeepingGate {
 }
 
 #[test]
-fn a_gate_is_told_each_packet_once_before_it(rt: HostRuntime) -> Result<(), Fail> {
+fn a_gate_is_told_packets_and_a_meter_costs(rt: HostRuntime) -> Result<(), Fail> {
     let alloc = rt.alloc();
     let mut pool = LocalPool::new(alloc, 4).expect(&rt, "memory");
     let mut lane = new_lane(alloc).expect(&rt, "memory");
-    let mut shelf = LocalShelf::<BucketTable<Count>, NoName>::new(alloc, &DEFAULT_KEY, 1).expect(
-        &rt, "memory",
-    );
+    let mut shelf = LocalShelf::<BucketTable<OrderFold>, NoName>::new(
+        alloc,
+        &DEFAULT_KEY,
+        1,
+        &hashing(),
+    ).expect(&rt, "memory");
     let mut meter = LocalMeter::new(alloc, 2).expect(&rt, "memory");
     assert!(rt; send(&mut lane, &mut pool, Kind::First, 0));
     assert!(rt; send(&mut lane, &mut pool, Kind::Next, 1));
@@ -53,7 +56,7 @@ fn a_gate_is_told_each_packet_once_before_it(rt: HostRuntime) -> Result<(), Fail
     };
     let last = turns::<NoName, _, _, _, _, _, _>(
         &mut worker,
-        &Count,
+        &OrderFold,
         &mut lane,
         &mut shelf,
         &mut pool,
@@ -64,5 +67,8 @@ fn a_gate_is_told_each_packet_once_before_it(rt: HostRuntime) -> Result<(), Fail
     assert_eq!(rt; last, WorkerTurn::Ended);
     assert_eq!(rt; gate.count.get(), 3);
     assert_eq!(rt; gate.calls.get(), [(1, 0), (1, 1), (1, 2), (0, 0)]);
+    // Each packet has 640 bytes, and costs 11.
+    assert_eq!(rt; (worker.worked(), worker.cost()), (3, 33));
+    assert_eq!(rt; (meter.read(0), meter.read(1)), (0, 33));
     Ok(())
 }

@@ -7,5 +7,5 @@ abbrev pub invariant-loop-load : goal.invariant-loop-load
 invariant-loop-load l =
     record {
       sum_is : l.sum ≡ sum_by (λ x. apart (length l.carried * x) (sum l.carried) * apart (length l.carried * x) (sum l.carried)) (take l.load-index l.carried);
-      small : l.sum ≤ l.load-index * 2 ^ 112;
+      small : l.sum ≤ l.load-index * 2 ^ 116;
     }

@@ -32,4 +32,4 @@ value c =
         ap (λ (x : List ℕ). owned k x (take c.loop-bucket.bucket c.args.loads.now.bucket)) a ∙ ap (λ (x : List ℕ). owned k c.args.owners.now x) b
 
 pub returns : goal.returns
-returns c = record { value = value c; small = subst (λ (z : List ℕ). All (λ load. load ≤ 2 ^ 50) z) (sym (value c)) (small_loads (length c.args.carried.now) c.args.loads.now c.args.owners.now c.requires.loads c.requires.buckets) }
+returns c = record { value = value c; small = subst (λ (z : List ℕ). All (λ load. load ≤ 2 ^ 52) z) (sym (value c)) (small_loads (length c.args.carried.now) c.args.loads.now c.args.owners.now c.requires.loads c.requires.buckets) }

@@ -3,7 +3,7 @@ use Rattle.traffic_gen.specs.Source.{left_of}
 use Rattle.flow_report.specs.Report.{report}
 use Rattle.rsspp_main.specs.Reports.{bucket_by}
 use Rattle.rsspp_main.specs.Run.{ends}
-use Rattle.rsspp_main.proofs.Demos.{demo_refused}
+use Rattle.rsspp_main.proofs.Demos.{demo_refused, shown_by}
 use Rattle.rsspp_main.proofs.demo.demo_by.Goals as goal
 
 pub returns-in-Err : goal.returns-in-Err
@@ -22,5 +22,5 @@ returns-in-Ok g c = record {
   outcome = λ left reads.
       let o = c.args.command.now.options in
       let run = c.in-Ok.ensures.run in
-      c.tell_demo.ensures.outcome g.N.RunName.packets run.0 run.3 (bucket_by o.key (length o.start.owners)) (rw c.new-source.ensures at run.1) run.4 run.5 left reads;
+      c.tell_demo.ensures.outcome g.N.RunName.packets run.0 run.3 (bucket_by o.key (length o.start.owners)) (rw c.new-source.ensures at run.1) (shown_by g.N.RunName.packets g.W.FlowWork.cost_of o run.0 run.3 run.4) run.5 left reads;
 }

@@ -10,10 +10,10 @@ rsspp-requires-clause-named g c κs within =
 pub returns-clause-report : goal.returns-clause-report
 returns-clause-report g c = λ zero.
     let h = c.rsspp.ensures.outcome in
-    let told = reported c.rsspp.result.trace (map string_bytes c.args.words.now) _ _ h.0 c.requires.words (ap (λ (bs : List ℕ). Some bs) c.requires.capture) (c.good_capture.ensures 1 0 (omega arith)) (sym h.1 ∙ zero) h.2 in
+    let told = reported c.args.hashing.now c.rsspp.result.trace (map string_bytes c.args.words.now) _ _ h.0 c.requires.words (ap (λ (bs : List ℕ). Some bs) c.requires.capture) (c.good_capture.ensures 1 0 (omega arith)) (sym h.1 ∙ zero) h.2 in
     sym (told.0 c.args.out.now.bytes refl)
 
 pub returns-clause-trace : goal.returns-clause-trace
 returns-clause-trace g c = λ zero.
     let h = c.rsspp.ensures.outcome in
-    (reported c.rsspp.result.trace (map string_bytes c.args.words.now) _ _ h.0 c.requires.words (ap (λ (bs : List ℕ). Some bs) c.requires.capture) (c.good_capture.ensures 1 0 (omega arith)) (sym h.1 ∙ zero) h.2).1
+    (reported c.args.hashing.now c.rsspp.result.trace (map string_bytes c.args.words.now) _ _ h.0 c.requires.words (ap (λ (bs : List ℕ). Some bs) c.requires.capture) (c.good_capture.ensures 1 0 (omega arith)) (sym h.1 ∙ zero) h.2).1

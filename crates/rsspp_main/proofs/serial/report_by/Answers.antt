@@ -15,7 +15,7 @@ returns-in-Err-clause-outcome g c =
     let W = g.W.FlowWork in
     let o = c.args.command.now.options in
     let e = c.in-Err.ensures in
-    let text = IsSerialText g.N.RunName.packets (report W.opening W.after W.line_text) c.args.command.now.journal (terms_of o) o.pool c.args.number in
+    let text = IsSerialText g.N.RunName.packets (report W.opening W.after W.line_text) c.args.command.now.journal (terms_of g.W.FlowWork.cost_of o) o.pool c.args.number in
     let old = ends (left c.args.source.now) (faults c.args.source.now) (writes c.args.out.now) (holds c.args.out.now) in
     let new = ends (left c.run_to_report.new.source) (faults c.run_to_report.new.source) (writes c.args.out.now) (holds c.args.out.now) in
     rw c.fault_of_run.ensures (refused o.packets text old new c.in-Err.fault e.refused e.cause
@@ -45,7 +45,7 @@ returns-clause-outcome g c =
     let o = c.args.command.now.options in
     let run = c.in-Ok.ensures.run in
     let end = c.in-Ok.end in
-    let serial = IsSerialText g.N.RunName.packets (report W.opening W.after W.line_text) c.args.command.now.journal (terms_of o) o.pool c.args.number in
+    let serial = IsSerialText g.N.RunName.packets (report W.opening W.after W.line_text) c.args.command.now.journal (terms_of g.W.FlowWork.cost_of o) o.pool c.args.number in
     let text = report W.opening W.after W.line_text run.3 ++ journal_part c.args.command.now.journal end.journal end.custody.items in
     let old = ends (left c.args.source.now) (faults c.args.source.now) (writes c.args.out.now) (holds c.args.out.now) in
     let new = ends (left c.run_to_report.new.source) (faults c.run_to_report.new.source) (writes c.write_run.new.out) (holds c.write_run.new.out) in

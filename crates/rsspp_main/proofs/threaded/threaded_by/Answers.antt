@@ -18,7 +18,7 @@ returns-in-Err-clause-outcome g c =
     let W = g.W.FlowWork in
     let o = c.args.command.now.options in
     let e = c.in-Err.ensures in
-    let text = IsThreadedText g.N.RunName.packets (report W.opening W.after W.line_text) c.args.command.now.journal (terms_of o) None in
+    let text = IsThreadedText g.N.RunName.packets (report W.opening W.after W.line_text) c.args.command.now.journal (terms_of g.W.FlowWork.cost_of o) None in
     let old = ends (left c.args.source.now) (faults c.args.source.now) (writes c.args.out.now) (holds c.args.out.now) in
     let new = ends (left c.threads_to_report.new.source) (faults c.threads_to_report.new.source) (writes c.args.out.now) (holds c.args.out.now) in
     rw c.fault_of_run.ensures (refused o.packets text old new c.in-Err.fault e.refused e.cause
@@ -36,8 +36,8 @@ returns-in-Ok-write_run-clause-outcome g c =
     let made = c.trace_of.ensures in
     let report_of = report W.opening W.after W.line_text in
     let asked = c.args.command.now.journal in
-    let is = trace_is (terms_of o) h.0 c.trace_of.result end.journal end.custody.items end.worked.items end.notes.items end.shelf made.journal made.custody made.worked made.notes made.shelf h.2 in (
-      (h.0, report_of h.3 ++ journal_part asked end.journal end.custody.items, (h.1, c.in-Ok.ensures.end), text_of g.N.RunName.packets report_of asked (terms_of o) (Some c.trace_of.result) h.0 h.3 c.trace_of.result end.journal end.custody.items refl h.4 is made.journal made.custody, c.in-Ok-write_run.ensures.ok h.3 (bucket_by o.key (length o.start.owners)) h.5),
+    let is = trace_is (terms_of g.W.FlowWork.cost_of o) h.0 c.trace_of.result end.journal end.custody.items end.worked.items end.notes.items end.shelf made.journal made.custody made.worked made.notes made.shelf h.2 in (
+      (h.0, report_of h.3 ++ journal_part asked end.journal end.custody.items, (h.1, c.in-Ok.ensures.end), text_of g.N.RunName.packets report_of asked (terms_of g.W.FlowWork.cost_of o) (Some c.trace_of.result) h.0 h.3 c.trace_of.result end.journal end.custody.items refl h.4 is made.journal made.custody, c.in-Ok-write_run.ensures.ok h.3 (bucket_by o.key (length o.start.owners)) h.5),
       record { reads = c.in-Ok.ensures.cause; writes = c.in-Ok-write_run.ensures.cause.kept },
     )
 
@@ -55,11 +55,11 @@ returns-in-Err-write_run-clause-outcome g c =
     let run : Trace = record { journal = end.journal; custody = end.custody; worked = end.worked; notes = end.notes; shelf = note.0 } in
     let report_of = report W.opening W.after W.line_text in
     let asked = c.args.command.now.journal in
-    let is = trace_is (terms_of o) h.0 run end.journal end.custody.items end.worked.items end.notes.items end.shelf refl refl refl refl note.1 h.2 in
-    let threaded = IsThreadedText g.N.RunName.packets report_of asked (terms_of o) None in
+    let is = trace_is (terms_of g.W.FlowWork.cost_of o) h.0 run end.journal end.custody.items end.worked.items end.notes.items end.shelf refl refl refl refl note.1 h.2 in
+    let threaded = IsThreadedText g.N.RunName.packets report_of asked (terms_of g.W.FlowWork.cost_of o) None in
     let text = report_of h.3 ++ journal_part asked end.journal end.custody.items in
     let old = ends (left c.args.source.now) (faults c.args.source.now) (writes c.args.out.now) (holds c.args.out.now) in
     let new = ends (left c.threads_to_report.new.source) (faults c.threads_to_report.new.source) (writes c.write_run.new.out) (holds c.write_run.new.out) in
     rw c.fault_of_report.ensures (written o.packets threaded old new h.0 text c.in-Err-write_run.fault (h.1, c.in-Ok.ensures.end)
-    (text_of g.N.RunName.packets report_of asked (terms_of o) None h.0 h.3 run end.journal end.custody.items tt h.4 is refl refl)
+    (text_of g.N.RunName.packets report_of asked (terms_of g.W.FlowWork.cost_of o) None h.0 h.3 run end.journal end.custody.items tt h.4 is refl refl)
     (c.in-Err-write_run.ensures.err h.3 (bucket_by o.key (length o.start.owners)) h.5) c.in-Err-write_run.ensures.cause.blames c.in-Ok.ensures.cause)

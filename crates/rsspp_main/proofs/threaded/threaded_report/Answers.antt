@@ -19,7 +19,7 @@ returns-in-Count-clause-outcome g c =
     let call = c.threaded_by in
     let old = ends (left c.args.source.now) (faults c.args.source.now) (writes c.args.out.now) (holds c.args.out.now) in
     let new = ends (left call.new.source) (faults call.new.source) (writes call.new.out) (holds call.new.out) in
-    by_work (λ (report_of : List PacketInfo → List ℕ). MatchResult call.result (λ run. Explains o.packets (IsThreadedText g.N.RunName.packets report_of command.journal (terms_of o) (Some run)) old new None) (λ fault. Explains o.packets (IsThreadedText g.N.RunName.packets report_of command.journal (terms_of o) None) old new (Some fault)))
+    by_work (λ (report_of : List PacketInfo → List ℕ) (cost : PacketInfo → ℕ). MatchResult call.result (λ run. Explains o.packets (IsThreadedText g.N.RunName.packets report_of command.journal (terms_of cost o) (Some run)) old new None) (λ fault. Explains o.packets (IsThreadedText g.N.RunName.packets report_of command.journal (terms_of cost o) None) old new (Some fault)))
     o.work works.Count (sym c.work_of.ensures ∙ c.in-Count.is) call.ensures.outcome
 
 pub returns-in-TcpFlags-clause-outcome : goal.returns-in-TcpFlags-clause-outcome
@@ -33,7 +33,7 @@ returns-in-TcpFlags-clause-outcome g c =
     let call = c.threaded_by-in-TcpFlags in
     let old = ends (left c.args.source.now) (faults c.args.source.now) (writes c.args.out.now) (holds c.args.out.now) in
     let new = ends (left call.new.source) (faults call.new.source) (writes call.new.out) (holds call.new.out) in
-    by_work (λ (report_of : List PacketInfo → List ℕ). MatchResult call.result (λ run. Explains o.packets (IsThreadedText g.N.RunName.packets report_of command.journal (terms_of o) (Some run)) old new None) (λ fault. Explains o.packets (IsThreadedText g.N.RunName.packets report_of command.journal (terms_of o) None) old new (Some fault)))
+    by_work (λ (report_of : List PacketInfo → List ℕ) (cost : PacketInfo → ℕ). MatchResult call.result (λ run. Explains o.packets (IsThreadedText g.N.RunName.packets report_of command.journal (terms_of cost o) (Some run)) old new None) (λ fault. Explains o.packets (IsThreadedText g.N.RunName.packets report_of command.journal (terms_of cost o) None) old new (Some fault)))
     o.work works.TcpFlags (sym c.work_of.ensures ∙ c.in-TcpFlags.is) call.ensures.outcome
 
 pub returns-in-Gaps-clause-outcome : goal.returns-in-Gaps-clause-outcome
@@ -47,7 +47,7 @@ returns-in-Gaps-clause-outcome g c =
     let call = c.threaded_by-in-Gaps in
     let old = ends (left c.args.source.now) (faults c.args.source.now) (writes c.args.out.now) (holds c.args.out.now) in
     let new = ends (left call.new.source) (faults call.new.source) (writes call.new.out) (holds call.new.out) in
-    by_work (λ (report_of : List PacketInfo → List ℕ). MatchResult call.result (λ run. Explains o.packets (IsThreadedText g.N.RunName.packets report_of command.journal (terms_of o) (Some run)) old new None) (λ fault. Explains o.packets (IsThreadedText g.N.RunName.packets report_of command.journal (terms_of o) None) old new (Some fault)))
+    by_work (λ (report_of : List PacketInfo → List ℕ) (cost : PacketInfo → ℕ). MatchResult call.result (λ run. Explains o.packets (IsThreadedText g.N.RunName.packets report_of command.journal (terms_of cost o) (Some run)) old new None) (λ fault. Explains o.packets (IsThreadedText g.N.RunName.packets report_of command.journal (terms_of cost o) None) old new (Some fault)))
     o.work works.Gaps (sym c.work_of.ensures ∙ c.in-Gaps.is) call.ensures.outcome
 
 pub returns-in-OrderFold-clause-outcome : goal.returns-in-OrderFold-clause-outcome
@@ -61,5 +61,5 @@ returns-in-OrderFold-clause-outcome g c =
     let call = c.threaded_by-in-OrderFold in
     let old = ends (left c.args.source.now) (faults c.args.source.now) (writes c.args.out.now) (holds c.args.out.now) in
     let new = ends (left call.new.source) (faults call.new.source) (writes call.new.out) (holds call.new.out) in
-    by_work (λ (report_of : List PacketInfo → List ℕ). MatchResult call.result (λ run. Explains o.packets (IsThreadedText g.N.RunName.packets report_of command.journal (terms_of o) (Some run)) old new None) (λ fault. Explains o.packets (IsThreadedText g.N.RunName.packets report_of command.journal (terms_of o) None) old new (Some fault)))
+    by_work (λ (report_of : List PacketInfo → List ℕ) (cost : PacketInfo → ℕ). MatchResult call.result (λ run. Explains o.packets (IsThreadedText g.N.RunName.packets report_of command.journal (terms_of cost o) (Some run)) old new None) (λ fault. Explains o.packets (IsThreadedText g.N.RunName.packets report_of command.journal (terms_of cost o) None) old new (Some fault)))
     o.work works.OrderFold (sym c.work_of.ensures ∙ c.in-OrderFold.is) call.ensures.outcome

@@ -13,14 +13,14 @@ returns-clause-run g c =
     let o = c.args.options.now in
     let left = g.S.Source.left c.args.source.now in
     if_ok c.run_threads.result _ _ (λ end h.
-    let shown = shown_by W.opening W.after (terms_of o) h.0 end.tables.items g.N.RunName.packets o.packets left c.requires.accepted.start.some_bucket c.requires.named h.1 h.3 in
+    let shown = shown_by W.opening W.after (terms_of g.W.FlowWork.cost_of o) h.0 end.tables.items g.N.RunName.packets o.packets left c.requires.accepted.start.some_bucket c.requires.named h.1 h.3 in
     (h.0, h.1, h.2, shown.0, shown.1, shown.2)) c.run_threads.ensures.run
 
 pub returns-clause-ready : goal.returns-clause-ready
 returns-clause-ready g c =
     let W = g.W.FlowWork in
     let o = c.args.options.now in
-    let t = terms_of o in
+    let t = terms_of g.W.FlowWork.cost_of o in
     let left = g.S.Source.left c.args.source.now in
     if_ok c.run_threads.result _ _ (λ end h.
     let all = h.0 in

@@ -12,4 +12,4 @@ returns-in-Err-clause-outcome g c =
     let writes = g.K.Sink.faults in
     let holds = g.K.Sink.may_hold in
     let now = ends (left c.args.source.now) (faults c.args.source.now) (writes c.args.out.now) (holds c.args.out.now) in
-    rw c.fault_of_words.ensures (unread g.N.RunName.packets (command_of (map string_bytes c.args.words.now)) now now c.in-Err.fault (record { left = refl; reads = refl; writes = refl; silent = λ bytes h. h }) c.in-Err.ensures.answers)
+    rw c.fault_of_words.ensures (unread c.args.hashing g.N.RunName.packets (command_of (map string_bytes c.args.words.now)) now now c.in-Err.fault (record { left = refl; reads = refl; writes = refl; silent = λ bytes h. h }) c.in-Err.ensures.answers)

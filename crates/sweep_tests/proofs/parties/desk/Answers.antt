@@ -19,7 +19,7 @@ invariant_of-result g c =
       tied = (
         past bytes [],
         c.in_ok-dispatcher.ensures.tied g.N.RunName.packets bytes _ _ _ c.in_ok-reader.reader left
-            (desk_fresh g.N.RunName.packets o c.requires.accepted c.requires.cores c.args.shared.now.first c.args.shared.now.second c.args.shared.now.shelf c.args.shared.now.pool c.args.shared.now.meter c.args.passes.first c.args.passes.second c.args.passes.seat c.args.passes.cells c.args.passes.load c.requires.passes
+            (desk_fresh g.N.RunName.packets o g.W.FlowWork.cost_of c.requires.accepted c.requires.cores c.args.shared.now.first c.args.shared.now.second c.args.shared.now.shelf c.args.shared.now.pool c.args.shared.now.meter c.args.passes.first c.args.passes.second c.args.passes.seat c.args.passes.cells c.args.passes.load c.requires.passes
             c.in_ok-lanes.lanes.items l c.end.result s c.end-3.result m c.in_ok-reader.reader bytes left named c.in_ok-reader.ensures.header c.in_ok-reader.ensures.first),
       );
     }

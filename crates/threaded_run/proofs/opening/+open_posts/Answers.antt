@@ -16,7 +16,7 @@ use Rattle.threaded_run.proofs.opening.+open_posts.Goals as goal
 
 pub returns-clause-posts : goal.returns-clause-posts
 returns-clause-posts g t c =
-    let m = c.in-Some-Some in let o = c.args.floor.now in let j = job g.W.FlowWork.opening g.W.FlowWork.after g.N.RunName.packets in
+    let m = c.in-Some-Some in let o = c.args.floor.now in let j = job g.W.FlowWork.opening g.W.FlowWork.after g.W.FlowWork.cost_of g.N.RunName.packets in
     let ti : c.args.takers.items ≡ c.pop.new.self.items ++ m.taker ∷ [] = search rules in
     let ci : c.args.cells.items ≡ c.pop-2.new.self.items ++ m.pass ∷ [] = search rules in
     let tl = ap length ti ∙ length-append c.pop.new.self.items (m.taker ∷ []) in

@@ -1,4 +1,4 @@
-use Rattle.worker_loop.proofs.Promises.{behind_mark_or_end, all_worked, all_taken, ended_exactly}
+use Rattle.worker_loop.proofs.Promises.{behind_mark_or_end, all_worked, all_cost, all_taken, ended_exactly}
 use Rattle.worker_loop.proofs.InLine.{line_empty}
 use Rattle.worker_loop.proofs.laws.workers_keep_order.Goals as goal
 
@@ -10,6 +10,9 @@ returns-clause-ended g c = ended_exactly
 
 pub returns-clause-worked : goal.returns-clause-worked
 returns-clause-worked g c = all_worked
+
+pub returns-clause-cost : goal.returns-clause-cost
+returns-clause-cost g c = all_cost
 
 pub returns-clause-empty : goal.returns-clause-empty
 returns-clause-empty g c = λ j w lane shelf meter tied. line_empty w.lot tied.line

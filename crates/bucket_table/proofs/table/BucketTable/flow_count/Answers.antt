@@ -9,5 +9,5 @@ use Rattle.bucket_table.proofs.table.BucketTable.flow_count.Goals as goal
 
 pub returns-clause-once : goal.returns-clause-once
 returns-clause-once g c =
-    let once = subst (λ (eq : FlowKey → FlowKey → Bool). IsDistinct eq (keys_of c.self.inside.flows.entries)) derived_is c.len.ensures.unique in
+    let once = subst (λ (eq : FlowKey → FlowKey → Bool). IsDistinct eq (keys_of c.self.inside.flows.value.entries)) derived_is (rw (c.deref.ensures) at c.len.ensures.unique) in
     subst (λ (t : TableOf g.row.W-State.Denot). IsDistinct same_key (keys_of t.flows)) c.self.view_is once

@@ -1,5 +1,6 @@
 use Rattle.std.proofs.Common.{◌∙◌, ℕ, refl, sym, ap, subst, arith, add-one}
 use Rattle.worker_loop.specs.Job.{job}
+use Rattle.dispatch_loop.specs.Face.{face_by}
 use Rattle.rsspp_run.specs.Serial.{number_after}
 use Rattle.rsspp_run.specs.Serial as numbers
 use Rattle.rsspp_run.specs.Sweeps.{IsSweeping}
@@ -8,7 +9,7 @@ use Rattle.rsspp_run.proofs.crew.Crew.run_sweeps.Goals as goal
 
 pub sweeps-init : goal.sweeps-init
 sweeps-init g c = record {
-  sweeping = λ run h none is. subst (λ (n : ℕ). IsSweeping g.N.RunName.packets (job g.W.FlowWork.opening g.W.FlowWork.after g.N.RunName.packets) run.terms run.pool run.number n run.bytes c.args.dispatcher.now c.args.self.now c.args.reader.now (g.S.Source.left c.args.source.now)) none h;
+  sweeping = λ run h none is. subst (λ (n : ℕ). IsSweeping g.N.RunName.packets (job g.W.FlowWork.opening g.W.FlowWork.after g.W.FlowWork.cost_of g.N.RunName.packets) run.terms run.pool run.number n run.bytes (face_by g.W.FlowWork.cost_of c.args.dispatcher.now) c.args.self.now c.args.reader.now (g.S.Source.left c.args.source.now)) none h;
   next = refl;
   blames = λ n b. b;
   origin = refl;
@@ -33,7 +34,7 @@ returns-in-Some-clause-ended g c = λ run h none is. c.in-Some.ensures.swept (re
 pub unreachable-requires : goal.unreachable-requires
 unreachable-requires g c =
     let run = c.requires.sweeping.0 in
-    let few = few_sweeps g.N.RunName.packets (job g.W.FlowWork.opening g.W.FlowWork.after g.N.RunName.packets) run.terms run.pool run.number c.sweeps.counter run.bytes c.sweeps.dispatcher c.sweeps.self c.sweeps.reader (g.S.Source.left c.sweeps.source)
+    let few = few_sweeps g.N.RunName.packets (job g.W.FlowWork.opening g.W.FlowWork.after g.W.FlowWork.cost_of g.N.RunName.packets) run.terms run.pool run.number c.sweeps.counter run.bytes (face_by g.W.FlowWork.cost_of c.sweeps.dispatcher) c.sweeps.self c.sweeps.reader (g.S.Source.left c.sweeps.source)
     (c.sweeps.invariant.sweeping run c.requires.sweeping.1 c.requires.sweeping.2 c.requires.sweeping.3) in
     let done = c.sweeps-test.false in
     absurd (omega arith)

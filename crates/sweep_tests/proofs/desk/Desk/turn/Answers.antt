@@ -2,6 +2,7 @@ use Rattle.std.proofs.Common.{rules, ◌≡◌, ◌∙◌, length, sym, ap, subs
 use Rattle.std.specs.Vec.{with_items}
 use Rattle.std.proofs.lemmas.List.{with_items_is}
 use Rattle.core_queue.specs.RuledLane.{AtLane}
+use Rattle.dispatch_loop.specs.Face.{face_by}
 use Rattle.dispatch_loop.specs.Past.{past}
 use Rattle.dispatch_loop.specs.Tied.{Tied}
 use Rattle.sweep_tests.proofs.Lanes.{same_length}
@@ -15,5 +16,5 @@ invariant_of-self g c =
     let all : v.len ≡ length v.items = v.ok.0 in
     let after : c.turn.new.lanes ≡ (with_items v c.turn.new.lanes).items = sym (with_items_is v c.turn.new.lanes (long ∙ (ap length same ∙ sym all))) in
     let p = c.self.invariant.tied in
-    let k = c.turn.ensures.tied.stays p.0 (subst (λ (l : List AtLane). Tied g.N.RunName.packets p.0 c.self.inside.dispatcher (map (λ (a : AtLane). a.eye) l) c.self.inside.shelf.eye c.self.inside.meter.eye c.self.inside.reader (Some (drop c.self.inside.source.given c.self.inside.source.all))) (sym same) p.1) in
-    record { tied = (past p.0.bytes k.0, subst (λ (l : List AtLane). Tied g.N.RunName.packets (past p.0.bytes k.0) c.turn.new.self (map (λ (a : AtLane). a.eye) l) c.turn.new.shelf.eye c.turn.new.meter.eye c.turn.new.reader (Some (drop c.turn.new.source.given c.turn.new.source.all))) after k.2) }
+    let k = c.turn.ensures.tied.stays p.0 (subst (λ (l : List AtLane). Tied g.N.RunName.packets p.0 (face_by g.W.FlowWork.cost_of c.self.inside.dispatcher) (map (λ (a : AtLane). a.eye) l) c.self.inside.shelf.eye c.self.inside.meter.eye c.self.inside.reader (Some (drop c.self.inside.source.given c.self.inside.source.all))) (sym same) p.1) in
+    record { tied = (past p.0.bytes k.0, subst (λ (l : List AtLane). Tied g.N.RunName.packets (past p.0.bytes k.0) (face_by g.W.FlowWork.cost_of c.turn.new.self) (map (λ (a : AtLane). a.eye) l) c.turn.new.shelf.eye c.turn.new.meter.eye c.turn.new.reader (Some (drop c.turn.new.source.given c.turn.new.source.all))) after k.2) }
