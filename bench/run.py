@@ -27,7 +27,7 @@ WORDS_REFUSED = 2  # the status of a program that doesn't know the words yet
 FEW, MANY, MOST = 1_000, 100_000, 1_000_000  # flows
 SLOW = 5  # a command that takes more seconds is run once
 LIMIT = 60  # and one that takes so many is ended
-SECTIONS = ("reports", "threads", "memory", "forms", "generated", "calls", "plans")
+SECTIONS = ("reports", "threads", "memory", "forms", "pcapng", "generated", "calls", "plans")
 
 # Tools that its users have today. FILE stands for the capture.
 OTHERS = {
@@ -202,6 +202,25 @@ class Bench:
             print(f"\n== Report of {path.stem}")
             self.is_same_report(path)
             times(self.report_rows(path) + self.yardsticks(path), self.runs)
+
+    def pcapng(self):
+        path = self.capture(MANY)
+        newer = path.with_suffix(".pcapng")
+        if not newer.exists():
+            part = newer.with_suffix(".part")
+            subprocess.run([sys.executable, str(HERE / "to_pcapng.py"), path, part], check=True)
+            part.rename(newer)
+        print(f"\n== Report of {path.stem} as pcapng, {newer.stat().st_size / 1e6:.0f} MB")
+        report, texts = [self.program, "report"], (OUT / "report.pcapng", OUT / "report.classic")
+        for source, text in zip((newer, path), texts):
+            with open(text, "wb") as out:
+                run(report, source, out)
+        is_same = filecmp.cmp(*texts, shallow=False)
+        print(f"  {'the same report as of the classic capture' if is_same else 'REPORTS DIFFER'}")
+        self.differ |= not is_same
+        for words in RUNS[:4]:
+            command = report + words.split()
+            times([(f"pcapng, {words}", command, newer), ("classic", command, path)], self.runs)
 
     def generated(self):
         print(f"\n== Generated traffic: make {self.records} 1")

@@ -14,7 +14,7 @@ use Rattle.pcapng_reader.specs.Front.{is_section}
 use Rattle.pcapng_reader.specs.Blocks.{Packet, Story, story_at, at_first}
 use Rattle.pcapng_reader.specs.Classic.{is_pcapng}
 use Rattle.pcapng_reader.specs.Progress.{Told, told_of, behind, text_with, story_inside, told_at, Progress, tells, waits, waits_at, IsPrompt, StageFits, Suits}
-use Rattle.pcapng_reader.specs.Stages.{kept_back}
+use Rattle.pcapng_reader.specs.Stages.{kept_back, break_at}
 use Rattle.pcapng_reader.specs.Steps.{fresh, hands_on_at, opened_at}
 use Rattle.pcapng_reader.proofs.Places.{number_at-append}
 use Rattle.pcapng_reader.proofs.Stories.{empty_of, not_below}
@@ -47,12 +47,14 @@ fresh_parts window ready held stage scope n e s =
     (ap (λ (p : Progress). p.ready) e, fits.0, empty_of window (omega (arith, fits.0, fits.1)), plain, ap (λ (p : Progress). p.scope) e, ap (λ (p : Progress). p.number) e)
 
 -- an input that begins as pcapng
-pub begins_pcapng : (first rest : List ℕ) → length first ≡ 4 → is_section first ≡ true → tells (made [] [] first (Between 0) at_first 0) rest ≡ told_of (first ++ rest)
-begins_pcapng first rest four section =
+pub section_first : (first rest : List ℕ) → length first ≡ 4 → is_section first ≡ true → is_pcapng (first ++ rest) ≡ true
+section_first first rest four section =
     let long : 4 ≤ length (first ++ rest) = simp length-append (omega arith) in
     let told : (number_at Big 4 0 (first ++ rest) == 0x0a0d_0d0a) ≡ true = ap (λ n. n == 0x0a0d_0d0a) (number_at-append Big 4 0 first rest (omega arith)) ∙ section in
-    let is : is_pcapng (first ++ rest) ≡ true = rw (above (length (first ++ rest)) 4 long) told in
-    tells_at (made [] [] first (Between 0) at_first 0) (Between 0) rest refl ∙ rw is refl
+    rw (above (length (first ++ rest)) 4 long) told
+
+pub begins_pcapng : (first rest : List ℕ) → length first ≡ 4 → is_section first ≡ true → tells (made [] [] first (Between 0) at_first 0) rest ≡ told_of (first ++ rest)
+begins_pcapng first rest four section = tells_at (made [] [] first (Between 0) at_first 0) (Between 0) rest refl ∙ rw (section_first first rest four section) refl
 
 -- another input
 pub begins_plain : (first rest : List ℕ) → length first ≤ 4 → (length first < 4 → rest ≡ []) → (length first ≡ 4 → is_section first ≡ false) → tells (made first [] [] Plain at_first 0) rest ≡ told_of (first ++ rest)
@@ -108,11 +110,6 @@ gives_view window ready given held f s count stage scope n rest waits few there 
     ∙ (ap (λ (w : List ℕ). told w t.broken) (split_text ready (take held window) t.text f s either)
     ∙ (ap (λ (w : List ℕ). told ((take f ready ++ w) ++ (drop f ready ++ (drop s (take held window) ++ t.text))) t.broken) (sym front)
     ∙ (ap (λ (w : List ℕ). told (w ++ (drop f ready ++ (drop s (take held window) ++ t.text))) t.broken) (sym all) ∙ ap (λ (x : Told). behind given x) (sym new))))
-
--- the first break, once it was found
-abbrev pub break_at : Stage → Option NgBreak
-break_at (Broken e) = Some e
-break_at _ = None
 
 append_none : (xs ys : List ℕ) → xs ++ ys ≡ [] → (xs ≡ []) × (ys ≡ [])
 append_none [] ys h = (refl, h)

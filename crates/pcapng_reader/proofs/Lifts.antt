@@ -1,14 +1,14 @@
 -- What is told over a source that may not tell its bytes.
-use Rattle.std.proofs.Common.{◌≡◌, ◌⊎◌, inl, inr, ℕ, ◌<◌, ◌==◌, Bool, true, List, [], ◌++◌, length, take, refl, sym, ap, ◌∙◌, arith, append_assoc, Option, None, Some, Result, Ok, Err, IfOk}
+use Rattle.std.proofs.Common.{◌≡◌, ◌⊎◌, inl, inr, ℕ, ◌≤◌, ◌<◌, lit≤, ◌==◌, Bool, true, false, List, [], ◌++◌, length, take, refl, sym, ap, ◌∙◌, arith, append_assoc, Option, None, Some, Result, Ok, Err, IfOk}
 use Rattle.std.proofs.lemmas.Bool.Decides.{nat_tests}
 use Rattle.std.specs.Io.KnownBytes.{Consumes, Keeps, IsAtEnd, ReadConsumes}
 use Rattle.pcapng_reader.specs.declared.fault.NgBreak.{NgBreak}
 use Rattle.pcapng_reader.specs.declared.stage.Stage.{Stage}
 use Rattle.pcapng_reader.specs.declared.stage.Stage.TheVariants.{Plain, Between, Inside, Broken, Ended}
-use Rattle.pcapng_reader.specs.Classic.{break_of}
+use Rattle.pcapng_reader.specs.Classic.{is_pcapng, break_of}
 use Rattle.pcapng_reader.specs.Progress.{Told, told_of, behind, told_at, Progress, tells, known, text_known, StaysTold, GivesTold}
 use Rattle.pcapng_reader.specs.Steps.{hands_on, Stands}
-use Rattle.pcapng_reader.specs.Lent.{classic_known, told_known, SameBreak}
+use Rattle.pcapng_reader.specs.Lent.{classic_known, told_known, TakesUpToFour, HandsOn, SameBreak}
 use Rattle.pcapng_reader.proofs.Stories.{empty_of}
 use Rattle.pcapng_reader.proofs.Tellings.{tells_at}
 
@@ -65,12 +65,16 @@ hands_on_is p h = by_stage p.stage refl
     by_stage (Broken b) e = let bad = rw e at h in cc
     by_stage Ended e = let bad = rw e at h in cc
 
+-- bytes of an input that isn't pcapng, behind those that are ready
+ready_tells : (p : Progress) (rest : List ℕ) → p.stage ≡ Plain → p.held ≡ [] → p.ahead ≡ [] → tells p rest ≡ record { text = p.ready ++ rest; broken = None }
+ready_tells p rest plain held ahead =
+    tells_at p Plain rest plain
+    ∙ (ap (λ (w : List ℕ). record { text = p.ready ++ (w ++ (p.ahead ++ rest)); broken = None }) held ∙ ap (λ (w : List ℕ). record { text = p.ready ++ (w ++ rest); broken = None }) ahead)
+
 plain_tells : (p : Progress) (rest : List ℕ) → hands_on p ≡ true → p.held ≡ [] → p.ahead ≡ [] → tells p rest ≡ record { text = rest; broken = None }
 plain_tells p rest h held ahead =
     let is = hands_on_is p h in
-    tells_at p Plain rest is.0
-    ∙ (ap (λ (w : List ℕ). record { text = w ++ (p.held ++ (p.ahead ++ rest)); broken = None }) is.1
-    ∙ (ap (λ (w : List ℕ). record { text = w ++ (p.ahead ++ rest); broken = None }) held ∙ ap (λ (w : List ℕ). record { text = w ++ rest; broken = None }) ahead))
+    ready_tells p rest is.0 held ahead ∙ ap (λ (w : List ℕ). record { text = w ++ rest; broken = None }) is.1
 
 pub hands_known : (p : Progress) (a b : Option (List ℕ)) (piece : List ℕ) → hands_on p ≡ true → p.held ≡ [] → p.ahead ≡ [] → Consumes a b piece → GivesTold (known p a) (known p b) piece
 hands_known p None b piece h held ahead r = tt
@@ -92,6 +96,32 @@ pub begin_known : (p : Progress) (a b : Option (List ℕ)) (first : List ℕ) �
 begin_known p None b first r end h = tt
 begin_known p (Some x) None first r end h = absurd r
 begin_known p (Some x) (Some y) first r end h = h y end ∙ ap told_of (sym r)
+
+-- an input that isn't pcapng is handed on from its beginning
+pub begin_plain : (p : Progress) (a b : Option (List ℕ)) (first : List ℕ) → Consumes a b first → (length first < 4 → IsAtEnd b) →
+    ((rest : List ℕ) → (length first < 4 → rest ≡ []) → is_pcapng (first ++ rest) ≡ false → (p.stage ≡ Plain) × (length p.ready ≤ 4)) → HandsOn p a
+begin_plain p None b first r end h = tt
+begin_plain p (Some x) None first r end h = absurd r
+begin_plain p (Some x) (Some y) first r end h = λ other. h y end (ap is_pcapng (sym r) ∙ other)
+
+-- and stays so
+pub plain_stays : (old new : Progress) (begun : Option (List ℕ)) → HandsOn old begun → (old.stage ≡ Plain → (new.stage ≡ Plain) × (length new.ready ≤ length old.ready)) → HandsOn new begun
+plain_stays old new None h s = tt
+plain_stays old new (Some bytes) h s = λ other.
+    let was = h other in
+    let is = s was.0 in
+    (is.0, omega (arith, was.1, is.1))
+
+-- and only its ready bytes are still to be given before those of its source
+pub plain_takes : (p : Progress) (begun left : Option (List ℕ)) (bytes : List ℕ) → HandsOn p begun → begun ≡ Some bytes → is_pcapng bytes ≡ false → (p.stage ≡ Plain → (p.held ≡ []) × (p.ahead ≡ [])) →
+    TakesUpToFour (text_known (known p left)) left
+plain_takes p None left bytes h e other none = cc
+plain_takes p (Some x) None bytes h e other none = ([], lit≤ tt, tt)
+plain_takes p (Some x) (Some rest) bytes h e other none =
+    let same : x ≡ bytes = cc in
+    let is = h (ap is_pcapng same ∙ other) in
+    let nothing = none is.0 in
+    (p.ready, is.1, ap (λ (t : Told). t.text) (ready_tells p rest is.0 nothing.0 nothing.1))
 
 pub classic_keeps : (a : Option (List ℕ)) (t : Option Told) → StaysTold (told_known a) t → Keeps (classic_known a) (text_known t)
 classic_keeps None t h = tt
@@ -126,24 +156,18 @@ stays_keeps (Some t) None h = absurd h
 stays_keeps (Some t) (Some u) h = ap (λ (x : Told). x.text) h
 
 -- the first break, once nothing is left
-pub broken_known : (p : Progress) (begun left : Option (List ℕ)) (bytes : List ℕ) (found : Option NgBreak) → SameBreak (told_known begun) (known p left) → begun ≡ Some bytes → text_known (known p left) ≡ Some [] →
+pub broken_known : (p : Progress) (begun left : Option (List ℕ)) (bytes : List ℕ) (found : Option NgBreak) → SameBreak (told_known begun) (known p left) → begun ≡ Some bytes → IsAtEnd (text_known (known p left)) →
     ((rest : List ℕ) → (tells p rest).text ≡ [] → (found ≡ (tells p rest).broken) × (found ≡ None → (rest ≡ []) ⊎ (p.stage ≡ Ended))) → found ≡ break_of bytes
 broken_known p None left bytes found s e t h = cc
 broken_known p (Some x) None bytes found s e t h = absurd s
 broken_known p (Some x) (Some rest) bytes found s e t h =
-    let empty : (tells p rest).text ≡ [] = cc in
     let same : x ≡ bytes = cc in
-    (h rest empty).0 ∙ (s ∙ ap break_of same)
+    (h rest t).0 ∙ (s ∙ ap break_of same)
 
-pub none_left : (p : Progress) (left : Option (List ℕ)) (found : Option NgBreak) → (p.stage ≡ Ended → IsAtEnd left) → text_known (known p left) ≡ Some [] →
-    ((rest : List ℕ) → (tells p rest).text ≡ [] → (found ≡ (tells p rest).broken) × (found ≡ None → (rest ≡ []) ⊎ (p.stage ≡ Ended))) → found ≡ None → left ≡ Some []
-none_left p None found over t h n = cc
-none_left p (Some rest) found over t h n =
-    let empty : (tells p rest).text ≡ [] = cc in
-    elim ((h rest empty).1 n) [
-      | inl none ↦ ap (λ (w : List ℕ). Some w) none
-      | inr ended ↦ ap (λ (w : List ℕ). Some w) (over ended)
-    ]
+pub none_left : (p : Progress) (left : Option (List ℕ)) (found : Option NgBreak) → (p.stage ≡ Ended → IsAtEnd left) → IsAtEnd (text_known (known p left)) →
+    ((rest : List ℕ) → (tells p rest).text ≡ [] → (found ≡ (tells p rest).broken) × (found ≡ None → (rest ≡ []) ⊎ (p.stage ≡ Ended))) → found ≡ None → IsAtEnd left
+none_left p None found over t h n = tt
+none_left p (Some rest) found over t h n = elim ((h rest t).1 n) [ inl none ↦ none | inr ended ↦ over ended ]
 
 pub consumes_trans : (a b c : Option (List ℕ)) (bs cs : List ℕ) → Consumes a b bs → Consumes b c cs → Consumes a c (bs ++ cs)
 consumes_trans None b c bs cs p q = tt

@@ -1,5 +1,6 @@
--- What a stage keeps back.
-use Rattle.std.specs.Prelude.{ℕ}
+-- What a stage keeps back, and the break that it tells.
+use Rattle.std.specs.Prelude.{ℕ, Option, None, Some}
+use Rattle.pcapng_reader.specs.declared.fault.NgBreak.{NgBreak}
 use Rattle.pcapng_reader.specs.declared.stage.Stage.{Stage}
 use Rattle.pcapng_reader.specs.declared.stage.Stage.TheVariants.{Plain, Between, Inside, Broken, Ended}
 
@@ -10,3 +11,8 @@ kept_back (Inside block) = 1
 kept_back Plain = 0
 kept_back (Broken e) = 0
 kept_back Ended = 0
+
+-- the first break, once it was found
+abbrev pub break_at : Stage → Option NgBreak
+break_at (Broken e) = Some e
+break_at _ = None

@@ -1,12 +1,10 @@
 ghost use Rattle.std.specs.Prelude.{◌≡◌, ◌≤◌, ◌<◌, length, take, IfOk, IfErr, OnOk};
 ghost use Rattle.std.specs.Io.KnownBytes.{Consumes, IsAtEnd};
 ghost use Rattle.rss_base.specs.Faults.{HasCause};
-ghost use Rattle.pcapng_reader.specs.Progress.{known, StaysTold};
-ghost use Rattle.pcapng_reader.specs.Lent.{told_known, Refused};
+ghost use Rattle.pcapng_reader.specs.Lent.{HasBegun, Refused, TakesUpToFour};
 
 use crate::NgError;
 use crate::reading::Reading;
-use crate::stage::Stage;
 use crate::window::read_at;
 use rss_base::{Failed, Source};
 use std::alloc::Global;
@@ -31,9 +29,11 @@ impl<S> Model for NgOpening<S> {
 
 // Reads the first four bytes, or all where there are fewer.
 fn read_first<S: Source>(source: &mut S, first: &mut [u8]) -> Result<usize, Failed>
+    requires { length first.old ≤ 4 }
     ensures within { IfOk result (λ n. n ≤ length first.new) }
     ensures bytes { IfOk result (λ n. Consumes (S.left source.old) (S.left source.new) (take n first.new)) }
     ensures end { IfOk result (λ n. n < length first.new → IsAtEnd (S.left source.new)) }
+    ensures few { TakesUpToFour (S.left source.old) (S.left source.new) }
     ensures cause { HasCause (S.faults source.old) (S.faults source.new) result }
     ensures origin { S.origin source.new ≡ S.origin source.old }
 {
@@ -50,8 +50,8 @@ fn read_first<S: Source>(source: &mut S, first: &mut [u8]) -> Result<usize, Fail
 
 // Takes all memory, and then reads the first four bytes.
 fn start_reading<S: Source>(alloc: Global, source: &mut S) -> Result<Reading, NgError>
-    ensures told { IfOk result (λ reading. StaysTold (told_known (S.left source.old)) (known reading (S.left source.new))) }
-    ensures going { IfOk result (λ reading. reading.stage ≡ Stage.Ended → ⊥) }
+    ensures started { IfOk result (λ reading. HasBegun reading (S.left source.old) (S.left source.new)) }
+    ensures few { TakesUpToFour (S.left source.old) (S.left source.new) }
     ensures quiet { OnOk result (S.faults source.new ≡ S.faults source.old) }
     ensures refused { IfErr result (λ error. Refused S.faults S.origin source.old source.new error) }
     ensures origin { S.origin source.new ≡ S.origin source.old }
@@ -74,9 +74,9 @@ impl<S: Source> NgOpening<S> {
     /// Takes all the memory of a reading, and then reads up to four bytes of the source. `NoMemory`
     /// comes before any read, and `ReadFault` where a read failed.
     pub fn read(alloc: Global, source: &mut S) -> Result<NgOpening<S>, NgError>
-        ensures told { IfOk result (λ opening. StaysTold (told_known (S.left source.old)) (known opening.progress (S.left source.new))) }
+        ensures started { IfOk result (λ opening. HasBegun opening.progress (S.left opening.begun) (S.left source.new)) }
         ensures begun { IfOk result (λ opening. opening.begun ≡ source.old) }
-        ensures going { IfOk result (λ opening. opening.progress.stage ≡ Stage.Ended → ⊥) }
+        ensures few { TakesUpToFour (S.left source.old) (S.left source.new) }
         ensures quiet { OnOk result (S.faults source.new ≡ S.faults source.old) }
         ensures refused { IfErr result (λ error. Refused S.faults S.origin source.old source.new error) }
         ensures origin { S.origin source.new ≡ S.origin source.old }

@@ -1,7 +1,7 @@
 ghost use Rattle.std.specs.Prelude.{◌≡◌, ◌≤◌, ◌<◌, ◌⊎◌, ◌+◌, ◌++◌, [], List, ℕ, length, take, true, false, IfOk, OnErr, None};
 ghost use Rattle.std.specs.Io.KnownBytes.{Consumes, Keeps, IsAtEnd};
 ghost use Rattle.rss_base.specs.Faults.{HasCause};
-ghost use Rattle.pcapng_reader.specs.Stages.{kept_back};
+ghost use Rattle.pcapng_reader.specs.Stages.{kept_back, break_at};
 
 use crate::NgBreak;
 use crate::adding::{add, put_last_header};
@@ -64,6 +64,7 @@ fn kept_back(stage: Stage) -> usize
 }
 
 impl Reading {
+    ghost use Rattle.pcapng_reader.specs.Classic.{is_pcapng};
     ghost use Rattle.pcapng_reader.specs.Progress.{tells, told_of, behind, waits, BlockFits, AddsFit};
     ghost use Rattle.pcapng_reader.specs.Looks.{IsSettled};
     ghost use Rattle.pcapng_reader.specs.Steps.{fresh, hands_on, settled, IsOver, finished, opened_at, passed_over, closed, Stands};
@@ -91,6 +92,8 @@ impl Reading {
         requires four { length first.now ≤ 4 }
         ensures told { (rest : List ℕ) → (length first.now < 4 → rest ≡ []) → tells self.new rest ≡ told_of (first.now ++ rest) }
         ensures going { self.new.stage ≡ Stage.Ended → ⊥ }
+        ensures whole { break_at self.new.stage ≡ None }
+        ensures plain { (rest : List ℕ) → (length first.now < 4 → rest ≡ []) → is_pcapng (first.now ++ rest) ≡ false → (self.new.stage ≡ Stage.Plain) × (length self.new.ready ≤ 4) }
     {
         if first.len() == 4 && begins_section(first) {
             self.window.put(first);
@@ -279,6 +282,7 @@ impl Reading {
         ensures given { (rest : List ℕ) → tells self.old rest ≡ behind (take result into.new) (tells self.new rest) }
         ensures none { result ≡ 0 → 0 < length into.new → (rest : List ℕ) → (tells self.new rest).text ≡ [] }
         ensures stage { self.new.stage ≡ self.old.stage }
+        ensures shrinks { length self.new.ready ≤ length self.old.ready }
     {
         let front = self.ready.bytes();
         let most = front.len() + self.held - kept_back(self.stage);
@@ -294,7 +298,9 @@ impl Reading {
 
     /// The first break, once it was found.
     pub fn broken(&self) -> Option<NgBreak>
-        ensures { (rest : List ℕ) → (tells self.now rest).text ≡ [] → (result ≡ (tells self.now rest).broken) × (result ≡ None → (rest ≡ []) ⊎ (self.now.stage ≡ Stage.Ended)) }
+        ensures value { result ≡ break_at self.now.stage }
+        ensures plain { self.now.stage ≡ Stage.Plain → (self.now.held ≡ []) × (self.now.ahead ≡ []) }
+        ensures told { (rest : List ℕ) → (tells self.now rest).text ≡ [] → (result ≡ (tells self.now rest).broken) × (result ≡ None → (rest ≡ []) ⊎ (self.now.stage ≡ Stage.Ended)) }
     {
         match self.stage {
             Stage::Broken(broken) => Some(broken),

@@ -1,9 +1,10 @@
-ghost use Rattle.std.specs.Prelude.{◌≡◌, ◌≤◌, ◌<◌, List, ℕ, [], length, take, true, false, None, Some, IfOk, OnErr, OnOk};
+ghost use Rattle.std.specs.Prelude.{◌≡◌, ◌≤◌, ◌<◌, List, ℕ, length, take, true, false, None, Some, IfOk, OnErr, OnOk};
 ghost use Rattle.std.specs.Io.KnownBytes.{Keeps, IsAtEnd};
 ghost use Rattle.rss_base.specs.Faults.{HasCause};
 ghost use Rattle.pcapng_reader.specs.Progress.{known, text_known, StaysTold, GivesTold, waits, left_to_do};
-ghost use Rattle.pcapng_reader.specs.Lent.{Begun, classic_known, told_known};
-ghost use Rattle.pcapng_reader.specs.Classic.{break_of};
+ghost use Rattle.pcapng_reader.specs.Lent.{Begun, classic_known, HasBegun, TakesUpToFour};
+ghost use Rattle.pcapng_reader.specs.Classic.{is_pcapng, break_of};
+ghost use Rattle.pcapng_reader.specs.Stages.{break_at};
 
 use crate::opening::NgOpening;
 use crate::reading::Reading;
@@ -59,6 +60,7 @@ fn advance<S: Source>(reading: &mut Reading, source: &mut S) -> Result<(), Faile
     ensures told { StaysTold (known reading.old (S.left source.old)) (known reading.new (S.left source.new)) }
     ensures over { reading.new.stage ≡ Stage.Ended → IsAtEnd (S.left source.new) }
     ensures ready { OnOk result (waits reading.new ≡ false) }
+    ensures still { waits reading.old ≡ false → (reading.new ≡ reading.old) × (source.new ≡ source.old) }
     ensures cause { HasCause (S.faults source.old) (S.faults source.new) result }
     ensures origin { S.origin source.new ≡ S.origin source.old }
 {
@@ -81,6 +83,7 @@ fn read_on<S: Source>(
     ensures none { IfOk result (λ n. n ≡ 0 → 0 < length into.new → IsAtEnd (text_known (known reading.new (S.left source.new)))) }
     ensures kept { OnErr result (StaysTold (known reading.old (S.left source.old)) (known reading.new (S.left source.new))) }
     ensures over { reading.new.stage ≡ Stage.Ended → IsAtEnd (S.left source.new) }
+    ensures plain { reading.old.stage ≡ Stage.Plain → (reading.new.stage ≡ Stage.Plain) × (length reading.new.ready ≤ length reading.old.ready) }
     ensures cause { HasCause (S.faults source.old) (S.faults source.new) result }
     ensures origin { S.origin source.new ≡ S.origin source.old }
 {
@@ -99,6 +102,8 @@ impl<'a, S: Source> NgSource<'a, S> {
         ensures faults { IfOk result (λ ng. ⟦<NgSource<'a, S> as Source>⟧.faults ng ≡ S.faults source.old) }
         ensures origin { IfOk result (λ ng. ⟦<NgSource<'a, S> as Source>⟧.origin ng ≡ record { bytes = S.left source.old; under = S.origin source.old; lent = source.entry.ghost_name }) }
         ensures same_reference { IfOk result (λ ng. ng.source.ghost_name ≡ source.entry.ghost_name) }
+        ensures whole { IfOk result (λ ng. break_at ng.progress.stage ≡ None) }
+        ensures few { IfOk result (λ ng. TakesUpToFour (S.left source.old) (S.left ng.source.now)) }
     {
         match NgOpening::read(alloc, source) {
             Ok(opening) => Ok(NgSource::over(opening, source)),
@@ -108,12 +113,13 @@ impl<'a, S: Source> NgSource<'a, S> {
 
     /// What an opening goes on with, over the source that it read. `start` is both calls in one.
     pub fn over(opening: NgOpening<S>, source: &'a mut S) -> NgSource<'a, S>
-        requires told { StaysTold (told_known (S.left opening.begun)) (known opening.progress (S.left source.old)) }
-        requires going { opening.progress.stage ≡ Stage.Ended → ⊥ }
+        requires started { HasBegun opening.progress (S.left opening.begun) (S.left source.old) }
         ensures left { Keeps (classic_known (S.left opening.begun)) (⟦<NgSource<'a, S> as Source>⟧.left result) }
         ensures faults { ⟦<NgSource<'a, S> as Source>⟧.faults result ≡ S.faults source.old }
         ensures origin { ⟦<NgSource<'a, S> as Source>⟧.origin result ≡ record { bytes = S.left opening.begun; under = S.origin source.old; lent = source.entry.ghost_name } }
         ensures same_reference { result.source.ghost_name ≡ source.entry.ghost_name }
+        ensures whole { break_at result.progress.stage ≡ None }
+        ensures now { result.source.now ≡ source.old }
     {
         let (reading, begun) = opening.into_reading();
         NgSource {
@@ -136,10 +142,14 @@ impl<'a, S: Source> NgSource<'a, S> {
         source
     }
 
-    /// The first break of the input, once nothing is left to be given.
+    /// The first break of the input, once it was found, and at the latest when nothing is left to be
+    /// given. An input that isn't pcapng has none: what is left of it is what its source has left,
+    /// behind at most four bytes.
     pub fn broken(&self) -> Option<NgBreak>
-        ensures broken { (bytes : List ℕ) → S.left self.now.begun ≡ Some bytes → ⟦<NgSource<'a, S> as Source>⟧.left self.now ≡ Some [] → result ≡ break_of bytes }
-        ensures none { ⟦<NgSource<'a, S> as Source>⟧.left self.now ≡ Some [] → result ≡ None → S.left self.now.source.now ≡ Some [] }
+        ensures value { result ≡ break_at self.now.progress.stage }
+        ensures broken { (bytes : List ℕ) → S.left self.now.begun ≡ Some bytes → IsAtEnd (⟦<NgSource<'a, S> as Source>⟧.left self.now) → result ≡ break_of bytes }
+        ensures none { IsAtEnd (⟦<NgSource<'a, S> as Source>⟧.left self.now) → result ≡ None → IsAtEnd (S.left self.now.source.now) }
+        ensures plain { (bytes : List ℕ) → S.left self.now.begun ≡ Some bytes → is_pcapng bytes ≡ false → TakesUpToFour (⟦<NgSource<'a, S> as Source>⟧.left self.now) (S.left self.now.source.now) }
     {
         self.reading.broken()
     }

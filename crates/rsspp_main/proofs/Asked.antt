@@ -3,7 +3,7 @@ use Rattle.std.proofs.Common.{◌≡◌, ℕ, List, sym, subst, Option, None, So
 use Rattle.packet_fields.specs.declared.packet.PacketInfo.{PacketInfo}
 use Rattle.command_words.specs.declared.command.Command.{Command}
 use Rattle.rsspp_main.specs.declared.fault.TopFault.{TopFault}
-use Rattle.rsspp_main.specs.declared.fault.TopFault.TheVariants.{Words, Capture, Line, ReadFault, Undrawn, WriteFault, NoMemory, TooMany}
+use Rattle.rsspp_main.specs.declared.fault.TopFault.TheVariants.{Words, Capture, Block, Line, ReadFault, Undrawn, WriteFault, NoMemory, TooMany}
 use Rattle.rsspp_main.specs.declared.trace.Trace.{Trace}
 use Rattle.rsspp_main.specs.Reports.{WritesSerial}
 use Rattle.rsspp_main.specs.Run.{Ends, Explains, report_by, run_terms}
@@ -14,6 +14,7 @@ module _ (packets : Option (List PacketInfo)) (c : Command) (told : Option Trace
   by_number number None h = h
   by_number number (Some (Words w)) h = h
   by_number number (Some (Capture e)) h = h
+  by_number number (Some (Block e)) h = h
   by_number number (Some (Line k)) h = h
   by_number number (Some ReadFault) h = h
   by_number number (Some Undrawn) h = h
@@ -25,6 +26,7 @@ module _ (packets : Option (List PacketInfo)) (c : Command) (told : Option Trace
   by_threads None h = h
   by_threads (Some (Words w)) h = h
   by_threads (Some (Capture e)) h = h
+  by_threads (Some (Block e)) h = h
   by_threads (Some (Line k)) h = h
   by_threads (Some ReadFault) h = h
   by_threads (Some Undrawn) h = h

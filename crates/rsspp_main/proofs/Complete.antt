@@ -1,13 +1,13 @@
--- Which status comes, by what the words ask for and how the source's bytes end.
-use Rattle.std.proofs.Common.{◌≡◌, ◌⊎◌, ◌<◌, ◌≤◌, inl, inr, ℕ, List, [], ◌∷◌, ◌++◌, length-append, arith, refl, sym, ap, subst, Option, None, Some, IsSome, Result, Ok, Err, IfSome, OnOk, OnErr}
+-- Which status comes, by what the words ask for and how the input ends.
+use Rattle.std.proofs.Common.{◌≡◌, ◌⊎◌, ◌<◌, ◌≤◌, inl, inr, ℕ, List, [], arith, refl, sym, ap, subst, Option, None, Some, IsSome, Result, Ok, Err, OnOk, OnErr}
 use Rattle.rss_base.specs.Faults.{NoneFailed, HasCause}
 use Rattle.rss_base.specs.Written.{Gets, GetsFront}
 use Rattle.std.proofs.lemmas.List.{append-nil}
-use Rattle.pcap_reader.specs.Capture.{Captured, Breaks, IsCapture, Reads}
-use Rattle.pcap_reader.specs.StreamEnd.{StreamEnd, EndsStream}
+use Rattle.pcap_reader.specs.StreamEnd.{EndsStream}
 use Rattle.pcap_reader.specs.StreamEnd as stream
 use Rattle.pcap_reader.specs.declared.fault.Break.{Break}
-use Rattle.pcap_reader.proofs.StreamEnds.{one_stream_end}
+use Rattle.pcapng_reader.specs.declared.fault.NgBreak.{NgBreak}
+use Rattle.pcapng_reader.specs.Classic.{classic_of, break_of}
 use Rattle.packet_fields.specs.declared.packet.PacketInfo.{PacketInfo}
 use Rattle.balancer.specs.PlanForm.{Instance, instance_of}
 use Rattle.command_words.specs.declared.command.Command.{Command}
@@ -17,134 +17,33 @@ use Rattle.command_words.specs.declared.word_fault.WordFault.{WordFault}
 use Rattle.command_words.specs.declared.word_fault.WordFault.TheVariants as word
 use Rattle.traffic_gen.specs.Traffic.{traffic}
 use Rattle.rsspp_main.specs.declared.fault.TopFault.{TopFault}
-use Rattle.rsspp_main.specs.declared.fault.TopFault.TheVariants.{Words, Capture, Line, ReadFault, Undrawn, WriteFault, NoMemory, TooMany}
+use Rattle.rsspp_main.specs.declared.fault.TopFault.TheVariants.{Words, Capture, Block, Line, ReadFault, Undrawn, WriteFault, NoMemory, TooMany}
 use Rattle.bucket_table.specs.declared.flow_hash_key.FlowHashKey.{FlowHashKey}
 use Rattle.rsspp_main.specs.Answers.{Answers, Does, HasNumbers, MakesTables, NamesRun, NamesRunOf, ReadsCapture, fault_of_word}
-use Rattle.pcap_reader.specs.Taken.{BeginsWith}
-use Rattle.rsspp_run.specs.OneTable.{AreAll}
 use Rattle.rsspp_main.specs.Demo.{ExplainsDemo}
 use Rattle.rsspp_main.specs.Threads.{WritesRun}
 use Rattle.rsspp_main.specs.declared.trace.Trace.{Trace}
-use Rattle.rsspp_main.specs.Stops.{Accepts, StopsWith}
 use Rattle.rsspp_main.specs.Listing.{listing, ExplainsListing}
 use Rattle.rsspp_main.specs.Notes.{Says}
 use Rattle.rsspp_main.specs.Plan.{ExplainsPlan}
 use Rattle.rsspp_main.specs.Run.{Ends, Explains, ExplainsText, Untouched, report_by}
 use Rattle.rsspp_main.specs.Status.{status_of}
+use Rattle.rsspp_main.proofs.InputEnds.{Tells, known, tells, tells_listing, done_by, broken_by, block_by, too_many_by}
 
 -- what the writing of a line says of the notes
 pub said : {E : Type 0} (r : Result (Unit {0}) E) (before now : ℕ) (held holds : List ℕ → Type 0) (line : List ℕ) → OnOk r (Gets held holds line) → OnErr r (GetsFront held holds line) → HasCause before now r → Says before now held holds line
 said (Ok u) before now held holds line ok err cause = record { front = (line, [], sym (append-nil line), ok); whole = λ quiet. ok }
 said (Err e) before now held holds line ok err cause = record { front = err; whole = λ quiet. absurd (quiet cause.failed) }
 
-known : (left : Option (List ℕ)) (bytes : List ℕ) (P : List ℕ → Type 0) → left ≡ Some bytes → IfSome left P → P bytes
-known left bytes P e h = subst (λ (o : Option (List ℕ)). IfSome o P) e h
-
--- an accepted capture ends behind its last record
-accepted_ends : (limit : ℕ) (left : Option (List ℕ)) (bytes : List ℕ) → left ≡ Some bytes → (records : List Captured) → Accepts limit left records → EndsStream limit bytes stream.Whole
-accepted_ends limit left bytes told records a = (records, known left bytes (λ b. IsCapture b records) told a.1, a.0)
-
--- the end of the stream that an outcome tells: of a read fault and of want of memory none is told
-pub Tells : ℕ → List ℕ → Ends → Ends → Option TopFault → Type 0
-Tells limit bytes old new None = EndsStream limit bytes stream.Whole
-Tells limit bytes old new (Some (Words w)) = ⊥
-Tells limit bytes old new (Some (Line k)) = ⊥
-Tells limit bytes old new (Some (Capture e)) = EndsStream limit bytes (stream.Broken e)
-Tells limit bytes old new (Some ReadFault) = NoneFailed old.read_faults new.read_faults → ⊥
-Tells limit bytes old new (Some Undrawn) = ⊥
-Tells limit bytes old new (Some WriteFault) = EndsStream limit bytes stream.Whole × (NoneFailed old.write_faults new.write_faults → ⊥)
-Tells limit bytes old new (Some NoMemory) = Unit {0}
-Tells limit bytes old new (Some (TooMany n)) = EndsStream limit bytes stream.TooMany
-
--- the end of the stream where the reading stopped at a break, and at a record too many
-broken_ends : (limit : ℕ) (left now : Option (List ℕ)) (bytes : List ℕ) (records : List Captured) (e : Break) → left ≡ Some bytes → StopsWith limit left now records (Capture e) → EndsStream limit bytes (stream.Broken e)
-broken_ends limit left now bytes records e told s = (records, known left bytes (λ b. Reads b records (Breaks e)) told s.1, s.0)
-
-many_end : (limit n : ℕ) (left now : Option (List ℕ)) (bytes : List ℕ) (records : List Captured) → left ≡ Some bytes → StopsWith limit left now records (TooMany n) → EndsStream limit bytes stream.TooMany
-many_end limit n left now bytes records told s =
-    let next = s.2.0 in
-    let first = records ++ next ∷ [] in
-    let whole = known left bytes (λ b. BeginsWith b first) told s.2.1 in (
-      first ++ whole.0,
-      whole.1,
-      whole.2,
-      omega (arith, s.1, length-append first whole.0, length-append records (next ∷ [])),
-    )
-
--- the packets of a whole capture are all of it
-all_ends : (limit : ℕ) (left : Option (List ℕ)) (bytes : List ℕ) → left ≡ Some bytes → (all : List PacketInfo) → AreAll limit left all → EndsStream limit bytes stream.Whole
-all_ends limit left bytes told all a = (subst (λ (o : Option (List ℕ)). AreAll limit o all) told a).0
-
-tells : (limit : ℕ) (Writes : List PacketInfo → List ℕ → Type 0) (old new : Ends) (bytes : List ℕ) → old.left ≡ Some bytes → (fault : Option TopFault) → Explains limit Writes old new fault → Tells limit bytes old new fault
-unfolding Tells
-tells limit Writes old new bytes told None h = all_ends limit old.left bytes told h.0.0 h.0.2.0
-tells limit Writes old new bytes told (Some (Words w)) h = h
-tells limit Writes old new bytes told (Some (Line k)) h = h
-tells limit Writes old new bytes told (Some (Capture e)) h = broken_ends limit old.left new.left bytes h.0.0 e told h.0.1
-tells limit Writes old new bytes told (Some ReadFault) h = λ quiet. quiet h.1
-tells limit Writes old new bytes told (Some Undrawn) h = h
-tells limit Writes old new bytes told (Some WriteFault) h = (all_ends limit old.left bytes told h.0.0 h.0.2.0, λ calm. calm h.1)
-tells limit Writes old new bytes told (Some NoMemory) h = tt
-tells limit Writes old new bytes told (Some (TooMany n)) h = many_end limit n old.left new.left bytes h.0.0 told h.0.1
-
--- the same of a listing
-tells_listing : (limit : ℕ) (text : List PacketInfo → List ℕ) (old new : Ends) (bytes : List ℕ) → old.left ≡ Some bytes → (fault : Option TopFault) → ExplainsListing limit text old new fault → Tells limit bytes old new fault
-unfolding Tells
-tells_listing limit text old new bytes told None h = accepted_ends limit old.left bytes told h.0 h.1
-tells_listing limit text old new bytes told (Some (Words w)) h = h
-tells_listing limit text old new bytes told (Some (Line k)) h = h
-tells_listing limit text old new bytes told (Some (Capture e)) h = broken_ends limit old.left new.left bytes h.0 e told h.1
-tells_listing limit text old new bytes told (Some ReadFault) h = λ quiet. quiet h.3
-tells_listing limit text old new bytes told (Some Undrawn) h = h
-tells_listing limit text old new bytes told (Some WriteFault) h = (accepted_ends limit old.left bytes told h.0 h.1, λ calm. calm h.4)
-tells_listing limit text old new bytes told (Some NoMemory) h = tt
-tells_listing limit text old new bytes told (Some (TooMany n)) h = many_end limit n old.left new.left bytes h.0 told h.1
-
-done_by : (limit : ℕ) (old new : Ends) (bytes : List ℕ) → EndsStream limit bytes stream.Whole → NoneFailed old.read_faults new.read_faults → NoneFailed old.write_faults new.write_faults → (fault : Option TopFault) → Tells limit bytes old new fault → (status_of fault ≡ 0) ⊎ (status_of fault ≡ 6)
-unfolding Tells
-done_by limit old new bytes end quiet calm None t = inl refl
-done_by limit old new bytes end quiet calm (Some (Words w)) t = absurd t
-done_by limit old new bytes end quiet calm (Some (Line k)) t = absurd t
-done_by limit old new bytes end quiet calm (Some (Capture e)) t = let same = one_stream_end limit bytes stream.Whole (stream.Broken e) end t in cc
-done_by limit old new bytes end quiet calm (Some ReadFault) t = absurd (t quiet)
-done_by limit old new bytes end quiet calm (Some Undrawn) t = absurd t
-done_by limit old new bytes end quiet calm (Some WriteFault) t = absurd (t.1 calm)
-done_by limit old new bytes end quiet calm (Some NoMemory) t = inr refl
-done_by limit old new bytes end quiet calm (Some (TooMany n)) t = let same = one_stream_end limit bytes stream.Whole stream.TooMany end t in cc
-
-broken_by : (limit : ℕ) (old new : Ends) (bytes : List ℕ) (e : Break) → EndsStream limit bytes (stream.Broken e) → NoneFailed old.read_faults new.read_faults → (fault : Option TopFault) → Tells limit bytes old new fault → (status_of fault ≡ 3) ⊎ (status_of fault ≡ 6)
-unfolding Tells
-broken_by limit old new bytes e end quiet None t = let same = one_stream_end limit bytes (stream.Broken e) stream.Whole end t in cc
-broken_by limit old new bytes e end quiet (Some (Words w)) t = absurd t
-broken_by limit old new bytes e end quiet (Some (Line k)) t = absurd t
-broken_by limit old new bytes e end quiet (Some (Capture f)) t = inl refl
-broken_by limit old new bytes e end quiet (Some ReadFault) t = absurd (t quiet)
-broken_by limit old new bytes e end quiet (Some Undrawn) t = absurd t
-broken_by limit old new bytes e end quiet (Some WriteFault) t = let same = one_stream_end limit bytes (stream.Broken e) stream.Whole end t.0 in cc
-broken_by limit old new bytes e end quiet (Some NoMemory) t = inr refl
-broken_by limit old new bytes e end quiet (Some (TooMany n)) t = let same = one_stream_end limit bytes (stream.Broken e) stream.TooMany end t in cc
-
-too_many_by : (limit : ℕ) (old new : Ends) (bytes : List ℕ) → EndsStream limit bytes stream.TooMany → NoneFailed old.read_faults new.read_faults → (fault : Option TopFault) → Tells limit bytes old new fault → (status_of fault ≡ 7) ⊎ (status_of fault ≡ 6)
-unfolding Tells
-too_many_by limit old new bytes end quiet None t = let same = one_stream_end limit bytes stream.TooMany stream.Whole end t in cc
-too_many_by limit old new bytes end quiet (Some (Words w)) t = absurd t
-too_many_by limit old new bytes end quiet (Some (Line k)) t = absurd t
-too_many_by limit old new bytes end quiet (Some (Capture f)) t = let same = one_stream_end limit bytes stream.TooMany (stream.Broken f) end t in cc
-too_many_by limit old new bytes end quiet (Some ReadFault) t = absurd (t quiet)
-too_many_by limit old new bytes end quiet (Some Undrawn) t = absurd t
-too_many_by limit old new bytes end quiet (Some WriteFault) t = let same = one_stream_end limit bytes stream.TooMany stream.Whole end t.0 in cc
-too_many_by limit old new bytes end quiet (Some NoMemory) t = inr refl
-too_many_by limit old new bytes end quiet (Some (TooMany n)) t = inl refl
-
 none_drawn : (drawn : Option FlowHashKey) → drawn ≡ None → IsSome drawn → ⊥
 none_drawn (Some key) none some = cc
 none_drawn None none some = cc
 
--- the end of the stream that a mode about a capture tells
+-- the end of the input that a mode about a capture tells
 does_tell : (drawn : Option FlowHashKey) (packets : Option (List PacketInfo)) (told : Option Trace) (m : Mode) (c : Command) (old new : Ends) (fault : Option TopFault) → ReadsCapture m → HasNumbers drawn m → Does drawn packets told m c old new fault → (bytes : List ℕ) → old.left ≡ Some bytes → Tells c.options.packets bytes old new fault
-does_tell (Some key) packets run mode.Report c old new fault asks has d bytes told = tells c.options.packets (WritesRun packets c c.serial run) old new bytes told fault d.0
+does_tell (Some key) packets run mode.Report c old new fault asks has d bytes told = tells c.options.packets old new bytes told (WritesRun packets c c.serial run) fault d.0
 does_tell None packets run mode.Report c old new fault asks has d bytes told = absurd (none_drawn None refl (has tt))
-does_tell drawn packets run mode.Hash c old new fault asks has d bytes told = tells_listing c.options.packets (listing c.options.key c.options.start.owners) old new bytes told fault d.0
+does_tell drawn packets run mode.Hash c old new fault asks has d bytes told = tells_listing c.options.packets old new bytes told (listing c.options.key c.options.start.owners) fault d.0
 does_tell drawn packets run mode.Plan c old new fault asks has d bytes told = absurd asks
 does_tell drawn packets run mode.Make c old new fault asks has d bytes told = absurd asks
 does_tell drawn packets run mode.Demo c old new fault asks has d bytes told = absurd asks
@@ -161,21 +60,28 @@ six : (fault : Option TopFault) → fault ≡ Some NoMemory → status_of fault 
 six fault e = ap status_of e
 
 pub done : (drawn : Option FlowHashKey) (packets : Option (List PacketInfo)) (told : Option Trace) (r : Result Command WordFault) (old new : Ends) (fault : Option TopFault) → Answers drawn packets told r old new fault →
-    (c : Command) (bytes : List ℕ) → r ≡ Ok c → ReadsCapture c.mode → HasNumbers drawn c.mode → old.left ≡ Some bytes → EndsStream c.options.packets bytes stream.Whole → NoneFailed old.read_faults new.read_faults → NoneFailed old.write_faults new.write_faults → (status_of fault ≡ 0) ⊎ (status_of fault ≡ 6)
-done drawn packets run r old new fault a c bytes is asks has told end quiet calm = elim (of_command drawn packets run r c old new fault a is) [
+    (c : Command) (bytes : List ℕ) → r ≡ Ok c → ReadsCapture c.mode → HasNumbers drawn c.mode → old.left ≡ Some bytes → EndsStream c.options.packets (classic_of bytes) stream.Whole → break_of bytes ≡ None → NoneFailed old.read_faults new.read_faults → NoneFailed old.write_faults new.write_faults → (status_of fault ≡ 0) ⊎ (status_of fault ≡ 6)
+done drawn packets run r old new fault a c bytes is asks has told end whole quiet calm = elim (of_command drawn packets run r c old new fault a is) [
   | inl lack ↦ inr (six fault lack)
-  | inr d ↦ done_by c.options.packets old new bytes end quiet calm fault (does_tell drawn packets run c.mode c old new fault asks has d bytes told)
+  | inr d ↦ done_by c.options.packets old new bytes end whole quiet calm fault (does_tell drawn packets run c.mode c old new fault asks has d bytes told)
 ]
 
 pub broken : (drawn : Option FlowHashKey) (packets : Option (List PacketInfo)) (told : Option Trace) (r : Result Command WordFault) (old new : Ends) (fault : Option TopFault) → Answers drawn packets told r old new fault →
-    (c : Command) (bytes : List ℕ) (e : Break) → r ≡ Ok c → ReadsCapture c.mode → HasNumbers drawn c.mode → old.left ≡ Some bytes → EndsStream c.options.packets bytes (stream.Broken e) → NoneFailed old.read_faults new.read_faults → (status_of fault ≡ 3) ⊎ (status_of fault ≡ 6)
+    (c : Command) (bytes : List ℕ) (e : Break) → r ≡ Ok c → ReadsCapture c.mode → HasNumbers drawn c.mode → old.left ≡ Some bytes → EndsStream c.options.packets (classic_of bytes) (stream.Broken e) → NoneFailed old.read_faults new.read_faults → (status_of fault ≡ 3) ⊎ (status_of fault ≡ 6)
 broken drawn packets run r old new fault a c bytes e is asks has told end quiet = elim (of_command drawn packets run r c old new fault a is) [
   | inl lack ↦ inr (six fault lack)
   | inr d ↦ broken_by c.options.packets old new bytes e end quiet fault (does_tell drawn packets run c.mode c old new fault asks has d bytes told)
 ]
 
+pub block : (drawn : Option FlowHashKey) (packets : Option (List PacketInfo)) (told : Option Trace) (r : Result Command WordFault) (old new : Ends) (fault : Option TopFault) → Answers drawn packets told r old new fault →
+    (c : Command) (bytes : List ℕ) (e : NgBreak) → r ≡ Ok c → ReadsCapture c.mode → HasNumbers drawn c.mode → old.left ≡ Some bytes → EndsStream c.options.packets (classic_of bytes) stream.Whole → break_of bytes ≡ Some e → NoneFailed old.read_faults new.read_faults → (status_of fault ≡ 3) ⊎ (status_of fault ≡ 6)
+block drawn packets run r old new fault a c bytes e is asks has told end breaks quiet = elim (of_command drawn packets run r c old new fault a is) [
+  | inl lack ↦ inr (six fault lack)
+  | inr d ↦ block_by c.options.packets old new bytes e end breaks quiet fault (does_tell drawn packets run c.mode c old new fault asks has d bytes told)
+]
+
 pub too_many : (drawn : Option FlowHashKey) (packets : Option (List PacketInfo)) (told : Option Trace) (r : Result Command WordFault) (old new : Ends) (fault : Option TopFault) → Answers drawn packets told r old new fault →
-    (c : Command) (bytes : List ℕ) → r ≡ Ok c → ReadsCapture c.mode → HasNumbers drawn c.mode → old.left ≡ Some bytes → EndsStream c.options.packets bytes stream.TooMany → NoneFailed old.read_faults new.read_faults → (status_of fault ≡ 7) ⊎ (status_of fault ≡ 6)
+    (c : Command) (bytes : List ℕ) → r ≡ Ok c → ReadsCapture c.mode → HasNumbers drawn c.mode → old.left ≡ Some bytes → EndsStream c.options.packets (classic_of bytes) stream.TooMany → NoneFailed old.read_faults new.read_faults → (status_of fault ≡ 7) ⊎ (status_of fault ≡ 6)
 too_many drawn packets run r old new fault a c bytes is asks has told end quiet = elim (of_command drawn packets run r c old new fault a is) [
   | inl lack ↦ inr (six fault lack)
   | inr d ↦ too_many_by c.options.packets old new bytes end quiet fault (does_tell drawn packets run c.mode c old new fault asks has d bytes told)
@@ -185,6 +91,7 @@ made_by : (text : List ℕ) (old new : Ends) → NoneFailed old.write_faults new
 made_by text old new calm None h = refl
 made_by text old new calm (Some (Words w)) h = absurd h
 made_by text old new calm (Some (Capture e)) h = absurd h
+made_by text old new calm (Some (Block e)) h = absurd h
 made_by text old new calm (Some (Line k)) h = absurd h
 made_by text old new calm (Some ReadFault) h = absurd h
 made_by text old new calm (Some Undrawn) h = absurd h
@@ -203,6 +110,7 @@ shown_by : (packets : Option (List PacketInfo)) (report_of : List PacketInfo →
 shown_by packets report_of c old new few calm None h = inl refl
 shown_by packets report_of c old new few calm (Some (Words w)) h = absurd h
 shown_by packets report_of c old new few calm (Some (Capture e)) h = absurd h
+shown_by packets report_of c old new few calm (Some (Block e)) h = absurd h
 shown_by packets report_of c old new few calm (Some (Line k)) h = absurd h
 shown_by packets report_of c old new few calm (Some ReadFault) h = absurd h
 shown_by packets report_of c old new few calm (Some Undrawn) h = absurd h
@@ -226,6 +134,7 @@ long_by : (packets : Option (List PacketInfo)) (report_of : List PacketInfo → 
 long_by packets report_of c old new more None h = absurd (let few = h.0 in omega arith)
 long_by packets report_of c old new more (Some (Words w)) h = absurd h
 long_by packets report_of c old new more (Some (Capture e)) h = absurd h
+long_by packets report_of c old new more (Some (Block e)) h = absurd h
 long_by packets report_of c old new more (Some (Line k)) h = absurd h
 long_by packets report_of c old new more (Some ReadFault) h = absurd h
 long_by packets report_of c old new more (Some Undrawn) h = absurd h
@@ -244,6 +153,7 @@ planned_by : (old new : Ends) (bytes : List ℕ) (p : Instance) → old.left ≡
 planned_by old new bytes p told spells quiet calm None h = inl refl
 planned_by old new bytes p told spells quiet calm (Some (Words w)) h = absurd h
 planned_by old new bytes p told spells quiet calm (Some (Capture e)) h = absurd h
+planned_by old new bytes p told spells quiet calm (Some (Block e)) h = absurd h
 planned_by old new bytes p told spells quiet calm (Some (Line k)) h = let bad = known old.left bytes (λ b. instance_of b ≡ Err k) told h.0 in cc
 planned_by old new bytes p told spells quiet calm (Some ReadFault) h = absurd (quiet h.0)
 planned_by old new bytes p told spells quiet calm (Some Undrawn) h = absurd h
@@ -262,6 +172,7 @@ bad_line_by : (old new : Ends) (bytes : List ℕ) (line : ℕ) → old.left ≡ 
 bad_line_by old new bytes line told bad quiet None h = let good = known old.left bytes (λ b. instance_of b ≡ Ok h.0) told h.1 in cc
 bad_line_by old new bytes line told bad quiet (Some (Words w)) h = absurd h
 bad_line_by old new bytes line told bad quiet (Some (Capture e)) h = absurd h
+bad_line_by old new bytes line told bad quiet (Some (Block e)) h = absurd h
 bad_line_by old new bytes line told bad quiet (Some (Line k)) h = inl refl
 bad_line_by old new bytes line told bad quiet (Some ReadFault) h = absurd (quiet h.0)
 bad_line_by old new bytes line told bad quiet (Some Undrawn) h = absurd h
@@ -302,12 +213,13 @@ refused drawn packets told r old new fault a e is = by_answer (subst (λ (r : Re
 -- no mode refuses words
 explains_none : (limit : ℕ) (Writes : List PacketInfo → List ℕ → Type 0) (old new : Ends) (fault : Option TopFault) → Explains limit Writes old new fault → status_of fault ≡ 2 → ⊥
 explains_none limit Writes old new None h e = cc
-explains_none limit Writes old new (Some (Words w)) h e = h
+explains_none limit Writes old new (Some (Words w)) h e = h.0
 explains_none limit Writes old new (Some (Capture f)) h e = cc
-explains_none limit Writes old new (Some (Line k)) h e = h
+explains_none limit Writes old new (Some (Block f)) h e = cc
+explains_none limit Writes old new (Some (Line k)) h e = h.0
 explains_none limit Writes old new (Some (TooMany n)) h e = cc
 explains_none limit Writes old new (Some ReadFault) h e = cc
-explains_none limit Writes old new (Some Undrawn) h e = h
+explains_none limit Writes old new (Some Undrawn) h e = h.0
 explains_none limit Writes old new (Some WriteFault) h e = cc
 explains_none limit Writes old new (Some NoMemory) h e = cc
 
@@ -315,6 +227,7 @@ listing_none : (limit : ℕ) (text : List PacketInfo → List ℕ) (old new : En
 listing_none limit text old new None h e = cc
 listing_none limit text old new (Some (Words w)) h e = h
 listing_none limit text old new (Some (Capture f)) h e = cc
+listing_none limit text old new (Some (Block f)) h e = cc
 listing_none limit text old new (Some (Line k)) h e = h
 listing_none limit text old new (Some (TooMany n)) h e = cc
 listing_none limit text old new (Some ReadFault) h e = cc
@@ -326,6 +239,7 @@ text_none : (text : List ℕ) (old new : Ends) (fault : Option TopFault) → Exp
 text_none text old new None h e = cc
 text_none text old new (Some (Words w)) h e = h
 text_none text old new (Some (Capture f)) h e = h
+text_none text old new (Some (Block f)) h e = h
 text_none text old new (Some (Line k)) h e = h
 text_none text old new (Some (TooMany n)) h e = h
 text_none text old new (Some ReadFault) h e = h
@@ -337,6 +251,7 @@ plan_none : (old new : Ends) (fault : Option TopFault) → ExplainsPlan old new 
 plan_none old new None h e = cc
 plan_none old new (Some (Words w)) h e = h
 plan_none old new (Some (Capture f)) h e = h
+plan_none old new (Some (Block f)) h e = h
 plan_none old new (Some (Line k)) h e = cc
 plan_none old new (Some (TooMany n)) h e = h
 plan_none old new (Some ReadFault) h e = cc
@@ -348,6 +263,7 @@ demo_none : (packets : Option (List PacketInfo)) (report_of : List PacketInfo �
 demo_none packets report_of c old new None h e = cc
 demo_none packets report_of c old new (Some (Words w)) h e = h
 demo_none packets report_of c old new (Some (Capture f)) h e = h
+demo_none packets report_of c old new (Some (Block f)) h e = h
 demo_none packets report_of c old new (Some (Line k)) h e = h
 demo_none packets report_of c old new (Some (TooMany n)) h e = cc
 demo_none packets report_of c old new (Some ReadFault) h e = h

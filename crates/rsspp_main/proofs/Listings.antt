@@ -1,5 +1,5 @@
 -- A listing through one packet more, and its end.
-use Rattle.std.proofs.Common.{◌≡◌, ◌⊎◌, inl, inr, ℕ, ◌+◌, ◌≤◌, List, [], ◌∷◌, ◌++◌, length, map, refl, sym, ap, subst, ◌∙◌, append_assoc, arith, Bool, true, false, None, Some, Result, Ok, Err, MatchResult}
+use Rattle.std.proofs.Common.{◌≡◌, ◌⊎◌, inl, inr, ℕ, ◌+◌, ◌≤◌, List, [], ◌∷◌, ◌++◌, length, map, refl, sym, ap, subst, ◌∙◌, append_assoc, arith, Bool, true, false, Option, None, Some, Result, Ok, Err, MatchResult}
 use Rattle.std.specs.Io.KnownBytes.{IsAtEnd}
 use Rattle.std.proofs.lemmas.List.{append-nil}
 use Rattle.rss_base.specs.Faults.{Rose}
@@ -11,11 +11,11 @@ use Rattle.pcap_reader.specs.Stream.{MayBlame}
 use Rattle.packet_fields.specs.declared.packet.PacketInfo.{PacketInfo}
 use Rattle.toeplitz.specs.declared.key.Key.{Key}
 use Rattle.rsspp_main.specs.declared.fault.TopFault.{TopFault}
-use Rattle.rsspp_main.specs.declared.fault.TopFault.TheVariants.{Words, Capture, Line, ReadFault, Undrawn, WriteFault, NoMemory, TooMany}
+use Rattle.rsspp_main.specs.declared.fault.TopFault.TheVariants.{Words, Capture, Block, Line, ReadFault, Undrawn, WriteFault, NoMemory, TooMany}
 use Rattle.rsspp_main.specs.Stops.{Accepts, MayFail, StopsWith, top_fault}
-use Rattle.rsspp_main.specs.Listing.{hash_line, listing, listing_from, IsListed, Listed, ExplainsListing}
+use Rattle.rsspp_main.specs.Listing.{hash_line, listing, listing_from, IsListed, Listed, Lists, Course, classic_course}
 use Rattle.dispatch_loop.specs.Packets.{packet_of}
-use Rattle.rsspp_main.specs.Run.{Ends, NoReadFailed, Untouched}
+use Rattle.rsspp_main.specs.Run.{Ends, NoReadFailed}
 
 listing_from-push : (key : Key) (owners : List ℕ) (n : ℕ) (ps : List PacketInfo) (p : PacketInfo) → listing_from key owners n (ps ++ p ∷ []) ≡ listing_from key owners n ps ++ hash_line key owners (n + length ps) p
 listing_from-push key owners n [] p = let zero_more : n ≡ n + 0 = omega arith in append-nil (hash_line key owners n p) ∙ ap (λ m. hash_line key owners m p) zero_more
@@ -112,31 +112,36 @@ listed_of : (old new : Ends) (failed : Bool) (text : List ℕ) → IsListed old.
 listed_of old new false text l = record { front = l.front; whole = λ calm. l.whole refl }
 listed_of old new true text l = record { front = l.front; whole = λ calm. absurd (calm (l.rose refl)) }
 
--- the end of a capture that was read whole
-pub finished : (limit : ℕ) (text : List PacketInfo → List ℕ) (old new : Ends) (records : List Captured) (failed : Bool) (r : Result (Unit {0}) TopFault) → Accepts limit old.left records → IsAtEnd new.left → NoReadFailed old new → IsListed old.write_faults new.write_faults old.may_hold new.may_hold failed (text (map packet_of records)) → (failed ≡ true → r ≡ Err WriteFault) → (failed ≡ false → r ≡ Ok tt) → MatchResult r (λ _. ExplainsListing limit text old new None) (λ fault. ExplainsListing limit text old new (Some fault))
-finished limit text old new records false r accepted end quiet l bad good = rw (good refl) (records, accepted, end, l.whole refl, record { reads = quiet; writes = l.calm refl })
-finished limit text old new records true r accepted end quiet l bad good = rw (bad refl) (records, accepted, end, l.front, l.rose refl, quiet)
+module _ (limit : ℕ) (text : List PacketInfo → List ℕ) (left now : Option (List ℕ)) (begun : Type 0) (old new : Ends) where
+  abbrev course : Course
+  course = classic_course limit left now begun
 
--- a reading that stopped behind these records
-pub stopped : (limit : ℕ) (text : List PacketInfo → List ℕ) (old new : Ends) (fault : TopFault) (records : List Captured) (failed : Bool) → StopsWith limit old.left new.left records fault → IsListed old.write_faults new.write_faults old.may_hold new.may_hold failed (text (map packet_of records)) → MayFail fault old.read_faults new.read_faults → ExplainsListing limit text old new (Some fault)
-stopped limit text old new (Capture e) records failed s l may = (records, s, listed_of old new failed (text (map packet_of records)) l, may)
-stopped limit text old new (TooMany n) records failed s l may = (records, s, listed_of old new failed (text (map packet_of records)) l, may)
-stopped limit text old new ReadFault records failed s l may = (records, s, listed_of old new failed (text (map packet_of records)) l, may)
-stopped limit text old new NoMemory records failed s l may = absurd s
-stopped limit text old new Undrawn records failed s l may = absurd s
-stopped limit text old new WriteFault records failed s l may = absurd s
-stopped limit text old new (Line k) records failed s l may = absurd s
-stopped limit text old new (Words w) records failed s l may = absurd s
+  -- the end of a capture that was read whole
+  pub finished : (records : List Captured) (failed : Bool) (r : Result (Unit {0}) TopFault) → Accepts limit left records → IsAtEnd now → NoReadFailed old new → IsListed old.write_faults new.write_faults old.may_hold new.may_hold failed (text (map packet_of records)) → (failed ≡ true → r ≡ Err WriteFault) → (failed ≡ false → r ≡ Ok tt)
+      → MatchResult r (λ _. Lists course text old new None) (λ fault. Lists course text old new (Some fault))
+  finished records false r accepted end quiet l bad good = rw (good refl) (records, (accepted, end), l.whole refl, record { reads = quiet; writes = l.calm refl })
+  finished records true r accepted end quiet l bad good = rw (bad refl) (records, (accepted, end), l.front, l.rose refl, quiet)
+
+  -- a reading that stopped behind these records
+  pub stopped : (fault : TopFault) (records : List Captured) (failed : Bool) → StopsWith limit left now records fault → IsListed old.write_faults new.write_faults old.may_hold new.may_hold failed (text (map packet_of records)) → MayFail fault old.read_faults new.read_faults → Lists course text old new (Some fault)
+  stopped (Capture e) records failed s l may = (records, s, listed_of old new failed (text (map packet_of records)) l, may)
+  stopped (TooMany n) records failed s l may = (records, s, listed_of old new failed (text (map packet_of records)) l, may)
+  stopped ReadFault records failed s l may = (records, s, listed_of old new failed (text (map packet_of records)) l, may)
+  stopped NoMemory records failed s l may = absurd s
+  stopped Undrawn records failed s l may = absurd s
+  stopped WriteFault records failed s l may = absurd s
+  stopped (Block e) records failed s l may = absurd s
+  stopped (Line k) records failed s l may = absurd s
+  stopped (Words w) records failed s l may = absurd s
+
+  -- no record at all
+  pub none_listed : (fault : TopFault) → ((fault ≡ NoMemory) × begun) ⊎ StopsWith limit left now [] fault
+      → IsListed old.write_faults new.write_faults old.may_hold new.may_hold false (text []) → MayFail fault old.read_faults new.read_faults → Lists course text old new (Some fault)
+  none_listed fault (inl lack) l may = subst (λ f. Lists course text old new (Some f)) (sym lack.0) (inl lack.1)
+  none_listed fault (inr s) l may = stopped fault [] false s l may
 
 -- an error of the reader may be blamed as the fault that it is
 pub may_fail : (error : ReadError) (before now : ℕ) → MayBlame error before now → MayFail (top_fault error) before now
 may_fail reading.NoMemory before now blame = blame
 may_fail reading.ReadFault before now blame = blame
 may_fail (reading.Broken e) before now blame = blame
-
--- no record at all
-pub none_listed : (limit : ℕ) (text : List PacketInfo → List ℕ) (old new : Ends) (fault : TopFault) (Before : Type 0)
-    → ((fault ≡ NoMemory) × Before) ⊎ StopsWith limit old.left new.left [] fault
-    → (Before → Untouched old new) → IsListed old.write_faults new.write_faults old.may_hold new.may_hold false (text []) → MayFail fault old.read_faults new.read_faults → ExplainsListing limit text old new (Some fault)
-none_listed limit text old new fault Before (inl lack) untouched l may = subst (λ f. ExplainsListing limit text old new (Some f)) (sym lack.0) (inl (untouched lack.1))
-none_listed limit text old new fault Before (inr s) untouched l may = stopped limit text old new fault [] false s l may

@@ -11,9 +11,12 @@ use Rattle.flow_work.specs.declared.work_name.WorkName.TheVariants.{Count}
 use Rattle.traffic_gen.specs.Capture.{captured_from}
 use Rattle.traffic_gen.specs.Draw.{draw, flow_of}
 use Rattle.traffic_gen.specs.Packet.{frame_of}
-use Rattle.traffic_gen.specs.Traffic.{traffic}
+use Rattle.traffic_gen.specs.Traffic.{traffic, records_from, record_of}
+use Rattle.pcapng_reader.specs.Lent.{classic_known}
+use Rattle.pcapng_reader.specs.Numbers.{number_at}
 use Rattle.dispatch_loop.specs.Defaults.{default_options}
 use Rattle.dispatch_loop.specs.Packets.{ArePackets, packet_of}
+use Rattle.dispatch_loop.specs.Past.{AreNamed}
 use Rattle.dispatch_loop.specs.Terms.{Terms}
 use Rattle.dispatch_loop.specs.declared.limits.TheConstants.{DEFAULT_PACKETS}
 use Rattle.rsspp_run.specs.OneTable.{AreAll}
@@ -22,7 +25,7 @@ use Rattle.command_words.specs.Words.{parts_after}
 use Rattle.command_words.specs.declared.command.Command.{Command}
 use Rattle.command_words.specs.declared.mode.Mode.TheVariants.{Report}
 use Rattle.rsspp_main.specs.declared.fault.TopFault.{TopFault}
-use Rattle.rsspp_main.specs.declared.fault.TopFault.TheVariants.{Words, Capture, Line, ReadFault, Undrawn, WriteFault, NoMemory, TooMany}
+use Rattle.rsspp_main.specs.declared.fault.TopFault.TheVariants.{Words, Capture, Block, Line, ReadFault, Undrawn, WriteFault, NoMemory, TooMany}
 use Rattle.bucket_table.specs.declared.flow_hash_key.FlowHashKey.{FlowHashKey}
 use Rattle.rsspp_main.specs.declared.trace.Trace.{Trace}
 use Rattle.rsspp_main.specs.Answers.{Answers, Does, NamesRun}
@@ -48,10 +51,16 @@ packets_are = refl
 has_one : IsCapture (traffic 1 0) (captured_from 0 0 1) → (limit : ℕ) → 1 ≤ limit → ArePackets limit (traffic 1 0) (one_packet ∷ [])
 has_one whole limit some = (captured_from 0 0 1, AtEnd, whole, sym (ap (λ (ps : List PacketInfo). take limit ps) packets_are ∙ take_all limit (one_packet ∷ []) some))
 
+-- the capture is no pcapng capture, so it stands for itself
+classic_is : classic_known (Some (traffic 1 0)) ≡ Some (traffic 1 0)
+unfolding traffic records_from record_of number_at frame_of flow_of draw u16_at u32_at
+classic_is = refl
+
 -- so the list may name the run
 pub names : (words : List (List ℕ)) (left : List ℕ) → words ≡ report_words → left ≡ traffic 1 0 → IsCapture (traffic 1 0) (captured_from 0 0 1)
     → NamesRun (Some (one_packet ∷ [])) (command_of words) (Some left)
-names words left ew el whole = rw (ew, el, asks) (has_one whole DEFAULT_PACKETS (omega arith))
+names words left ew el whole =
+    rw (ew, el, asks) (subst (λ (o : Option (List ℕ)). AreNamed (Some (one_packet ∷ [])) DEFAULT_PACKETS o) (sym classic_is) (has_one whole DEFAULT_PACKETS (omega arith)))
 
 -- the packet's report
 report_is : report_by Count (one_packet ∷ []) ≡ one_packet_report
@@ -62,6 +71,7 @@ report_is = refl
 not_done : (fault : TopFault) → status_of (Some fault) ≡ 0 → ⊥
 not_done (Words w) e = cc
 not_done (Capture b) e = cc
+not_done (Block b) e = cc
 not_done (Line k) e = cc
 not_done ReadFault e = cc
 not_done Undrawn e = cc
@@ -80,7 +90,7 @@ done_by : (key : FlowHashKey) (told : Option Trace) (old new : Ends) → old.lef
 done_by key told old new left whole d =
     let w = d.0.0 in
     let text : IsThreadedText (Some (one_packet ∷ [])) (report_by Count) false (run_terms (default_options Count)) told w.0 w.1 = w.3 in
-    let read = subst (λ o. AreAll DEFAULT_PACKETS o w.0) left w.2.0 in
+    let read = subst (λ o. AreAll DEFAULT_PACKETS o w.0) (ap classic_known left ∙ classic_is) w.2.0 in
     let all_is : w.0 ≡ one_packet ∷ [] = one_list DEFAULT_PACKETS (traffic 1 0) w.0 (one_packet ∷ []) read.1 (has_one whole DEFAULT_PACKETS (omega arith)) in
     let wrote : w.1 ≡ one_packet_report = text.text_is ∙ (append-nil (report_by Count text.shown) ∙ (ap (report_by Count) (text.are_shown ∙ all_is) ∙ report_is)) in (
       subst (λ (bytes : List ℕ). Gets old.may_hold new.may_hold bytes) wrote w.4,

@@ -1,38 +1,37 @@
 -- From the answers of a run and of its report to what they explain.
-use Rattle.std.proofs.Common.{◌≡◌, ◌⊎◌, inl, inr, ℕ, List, refl, sym, subst, Option, None, Some, Result}
+use Rattle.std.proofs.Common.{◌≡◌, inl, inr, ℕ, List, sym, subst, Option, None, Some, Result}
 use Rattle.std.specs.Prelude.{MatchResult}
 use Rattle.rss_base.specs.Written.{GetsFront}
 use Rattle.packet_fields.specs.declared.packet.PacketInfo.{PacketInfo}
 use Rattle.flow_report.specs.Cause as writing
 use Rattle.flow_report.specs.declared.fault.ReportFault.{ReportFault}
 use Rattle.flow_report.specs.declared.fault.ReportFault.TheVariants as report
-use Rattle.rsspp_run.specs.Refused.{Refuses, Blames}
-use Rattle.rsspp_run.specs.declared.run_end.RunFault.{RunFault}
-use Rattle.rsspp_run.specs.declared.run_end.RunFault.TheVariants.{Capture, ReadFault, TooMany, NoMemory}
 use Rattle.flow_work.specs.declared.work_name.WorkName.{WorkName}
 use Rattle.flow_work.specs.Costs.{cost_by}
 use Rattle.dispatch_loop.specs.Terms.{terms_of}
 use Rattle.command_words.specs.declared.command.Command.{Command}
 use Rattle.rsspp_main.specs.declared.fault.TopFault.{TopFault}
+use Rattle.rsspp_main.specs.declared.fault.TopFault.TheVariants.{Words, Capture, Block, Line, ReadFault, Undrawn, WriteFault, NoMemory, TooMany}
 use Rattle.rsspp_main.specs.Demo.{ExplainsDemo}
-use Rattle.rsspp_main.specs.Reports.{IsSerialText, WritesSerial, run_fault, report_fault}
-use Rattle.rsspp_main.specs.Run.{Ends, Explains, HasRead, NoReadFailed, NoWriteFailed, Silent, Untouched, report_by}
+use Rattle.rsspp_main.specs.Reports.{IsSerialText, WritesSerial, report_fault}
+use Rattle.rsspp_main.specs.Run.{Ends, Explains, HasRead, NoReadFailed, Refused, Unwritten, report_by}
 
--- a run that was refused, where nothing was written
-pub refused : (limit : ℕ) (Writes : List PacketInfo → List ℕ → Type 0) (old new : Ends) (fault : RunFault) → Refuses limit old.left new.left fault → Blames fault old.read_faults new.read_faults
-    → (fault ≡ NoMemory → Untouched old new ⊎ ((all : List PacketInfo) × HasRead limit old new all)) → Silent old new → NoWriteFailed old new → Explains limit Writes old new (Some (run_fault fault))
-refused limit Writes old new (Capture e) stops blames memory silent calm = ((stops.0, stops.1, silent), record { reads = blames; writes = calm })
-refused limit Writes old new (TooMany n) stops blames memory silent calm = ((stops.0, stops.1, silent), record { reads = blames; writes = calm })
-refused limit Writes old new ReadFault stops blames memory silent calm = ((stops.0, stops.1, silent), blames, calm)
-refused limit Writes old new NoMemory stops blames memory silent calm = elim (memory refl) [
-  | inl same ↦ inl same
-  | inr read ↦ inr (inl (read.0, read.1, silent, record { reads = blames; writes = calm }))
-]
+-- a run that ended before its text
+pub unwritten : (limit : ℕ) (Writes : List PacketInfo → List ℕ → Type 0) (old new : Ends) (fault : TopFault) → Refused limit old.left new.left old.read_faults new.read_faults fault → Unwritten old new → Explains limit Writes old new (Some fault)
+unwritten limit Writes old new (Capture e) h silent = (h, silent)
+unwritten limit Writes old new (Block e) h silent = (h, silent)
+unwritten limit Writes old new (TooMany n) h silent = (h, silent)
+unwritten limit Writes old new ReadFault h silent = (h, silent)
+unwritten limit Writes old new NoMemory h silent = inl (h, silent)
+unwritten limit Writes old new Undrawn h silent = absurd h
+unwritten limit Writes old new WriteFault h silent = absurd h
+unwritten limit Writes old new (Line k) h silent = absurd h
+unwritten limit Writes old new (Words w) h silent = absurd h
 
 -- a fault in the writing of a run's text
-pub written : (limit : ℕ) (Writes : List PacketInfo → List ℕ → Type 0) (old new : Ends) (all : List PacketInfo) (text : List ℕ) (fault : ReportFault) → HasRead limit old new all → Writes all text → GetsFront old.may_hold new.may_hold text
+pub written : (limit : ℕ) (Writes : List PacketInfo → List ℕ → Type 0) (old new : Ends) (all : List PacketInfo) (text : List ℕ) (fault : ReportFault) → HasRead limit old.left new.left all → Writes all text → GetsFront old.may_hold new.may_hold text
     → writing.Blames fault old.write_faults new.write_faults → NoReadFailed old new → Explains limit Writes old new (Some (report_fault fault))
-written limit Writes old new all text report.NoMemory read writes front blames quiet = inr (inr ((all, text, read, writes, front), record { reads = quiet; writes = blames }))
+written limit Writes old new all text report.NoMemory read writes front blames quiet = inr ((all, text, read, writes, front), record { reads = quiet; writes = blames })
 written limit Writes old new all text report.WriteFault read writes front blames quiet = ((all, text, read, writes, front), blames, quiet)
 
 -- what is explained by the report of a work is explained by that of a command which asks for this work

@@ -2,6 +2,7 @@
 use Rattle.std.specs.Prelude.{◌≡◌, ◌⊎◌, ℕ, List, Option, None, Some, IsSome, MatchOption, Result, Ok, Err}
 use Rattle.packet_fields.specs.declared.packet.PacketInfo.{PacketInfo}
 use Rattle.bucket_table.specs.declared.flow_hash_key.FlowHashKey.{FlowHashKey}
+use Rattle.pcapng_reader.specs.Lent.{classic_known}
 use Rattle.dispatch_loop.specs.Past.{AreNamed}
 use Rattle.command_words.specs.declared.command.Command.{Command}
 use Rattle.command_words.specs.declared.mode.Mode.{Mode}
@@ -42,9 +43,9 @@ abbrev pub Answers : Option FlowHashKey → Option (List PacketInfo) → Option 
 Answers drawn packets told (Err e) old new fault = ((fault ≡ Some (Words e)) ⊎ (fault ≡ Some NoMemory)) × Untouched old new × (told ≡ None)
 Answers drawn packets told (Ok c) old new fault = ((fault ≡ Some NoMemory) × Untouched old new × (told ≡ None)) ⊎ Does drawn packets told c.mode c old new fault
 
--- where packets are named, they are those of the capture that the words ask to run over: what the source has left, or the generated one; other words ask for no run
+-- where packets are named, they are those of the capture that the words ask to run over: the classic one that the input stands for, or the generated one; other words ask for no run
 abbrev pub NamesRunOf : Option (List PacketInfo) → Mode → Command → Option (List ℕ) → Type 0
-NamesRunOf packets Report c left = AreNamed packets c.options.packets left
+NamesRunOf packets Report c left = AreNamed packets c.options.packets (classic_known left)
 NamesRunOf packets Demo c left = AreNamed packets c.options.packets (Some (traffic c.count c.number))
 NamesRunOf packets Hash c left = Unit {0}
 NamesRunOf packets Plan c left = Unit {0}

@@ -11,7 +11,7 @@ use Rattle.traffic_gen.specs.Capture.{captured_from}
 use Rattle.dispatch_loop.specs.Packets.{packet_of}
 use Rattle.command_words.specs.declared.command.Command.{Command}
 use Rattle.rsspp_main.specs.declared.fault.TopFault.{TopFault}
-use Rattle.rsspp_main.specs.declared.fault.TopFault.TheVariants.{Words, Capture, Line, ReadFault, Undrawn, WriteFault, NoMemory, TooMany}
+use Rattle.rsspp_main.specs.declared.fault.TopFault.TheVariants.{Words, Capture, Block, Line, ReadFault, Undrawn, WriteFault, NoMemory, TooMany}
 use Rattle.rsspp_main.specs.Reports.{AreShown}
 use Rattle.rsspp_main.specs.Run.{Ends, NoReadFailed, NoWriteFailed, Untouched, run_terms}
 
@@ -55,6 +55,7 @@ ExplainsDemo packets report_of c old new (Some WriteFault) =
 ExplainsDemo packets report_of c old new (Some (TooMany n)) = (n ≡ c.options.packets) × (c.options.packets < c.count) × Untouched old new
 ExplainsDemo packets report_of c old new (Some NoMemory) = Untouched old new
 ExplainsDemo packets report_of c old new (Some (Capture e)) = ⊥
+ExplainsDemo packets report_of c old new (Some (Block e)) = ⊥
 ExplainsDemo packets report_of c old new (Some ReadFault) = ⊥
 ExplainsDemo packets report_of c old new (Some Undrawn) = ⊥
 ExplainsDemo packets report_of c old new (Some (Line k)) = ⊥

@@ -1,5 +1,6 @@
 pub mod Answers
 pub mod Demo
+pub mod Input
 pub mod Listing
 pub mod Named
 pub mod Notes

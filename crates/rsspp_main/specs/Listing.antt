@@ -1,5 +1,5 @@
 -- The listing of packets' hashes, and what each outcome of its run says.
-use Rattle.std.specs.Prelude.{◌≡◌, ◌⊎◌, ◌<◌, ◌≤◌, ◌+◌, ◌%◌, ℕ, List, [], ◌∷◌, ◌++◌, length, map, codes, slice_index, Bool, true, false, Option, None, Some}
+use Rattle.std.specs.Prelude.{◌≡◌, ◌⊎◌, ◌<◌, ◌≤◌, ◌+◌, ◌%◌, ℕ, List, [], ◌∷◌, ◌++◌, length, map, codes, slice_index, Bool, true, false, Option, None, Some, Result, Ok, Err}
 use Rattle.std.specs.Fmt.{decimal}
 use Rattle.std.specs.Io.KnownBytes.{IsAtEnd}
 use Rattle.rss_base.specs.Faults.{Rose, NoneFailed}
@@ -11,11 +11,14 @@ use Rattle.packet_fields.specs.KeyText.{key_text_of}
 use Rattle.toeplitz.specs.declared.key.Key.{Key}
 use Rattle.toeplitz.specs.Packet.{packet_hash}
 use Rattle.rsspp_main.specs.declared.fault.TopFault.{TopFault}
-use Rattle.rsspp_main.specs.declared.fault.TopFault.TheVariants.{Words, Capture, Line, ReadFault, Undrawn, WriteFault, NoMemory, TooMany}
-use Rattle.rsspp_main.specs.Stops.{Accepts, StopsWith}
+use Rattle.rsspp_main.specs.declared.fault.TopFault.TheVariants.{Words, Capture, Block, Line, ReadFault, Undrawn, WriteFault, NoMemory, TooMany}
+use Rattle.rsspp_main.specs.Input.{IsUnbroken, BreaksBy}
+use Rattle.rsspp_main.specs.Stops.{Accepts, GoesOnIn, StopsIn, StopsWith}
 use Rattle.dispatch_loop.specs.Stops.{GoesOn}
+use Rattle.pcapng_reader.specs.declared.fault.NgBreak.{NgBreak}
+use Rattle.pcapng_reader.specs.Lent.{classic_known}
 use Rattle.dispatch_loop.specs.Packets.{packet_of}
-use Rattle.rsspp_main.specs.Run.{Ends, NoCallFailed, NoReadFailed, Untouched}
+use Rattle.rsspp_main.specs.Run.{Ends, NoCallFailed, NoReadFailed, Opened}
 
 -- the bucket of a packet, and the core that owns it
 abbrev pub bucket_in : Key → List ℕ → PacketInfo → ℕ
@@ -48,22 +51,58 @@ pub record Listed (old new : Ends) (text : List ℕ) : Type 0 where
   pub front : GetsFront old.may_hold new.may_hold text
   pub whole : NoneFailed old.write_faults new.write_faults → Gets old.may_hold new.may_hold text
 
+-- what may come of the reading of a capture, by the records that were read
+pub record Course : Type 1 where
+  pub begun : Type 0
+  pub ended : List Captured → Type 0
+  pub stopped : List Captured → TopFault → Type 0
+  pub goes_on : List Captured → Type 0
+  pub broken : List Captured → NgBreak → Type 0
+
 -- what each outcome says of a run that lists the packets of a capture as they come; None is the outcome of a run that was done
+abbrev pub Lists : Course → (List PacketInfo → List ℕ) → Ends → Ends → Option TopFault → Type 0
+Lists course text old new None = (records : List Captured) × course.ended records × Gets old.may_hold new.may_hold (text (map packet_of records)) × NoCallFailed old new
+Lists course text old new (Some (Capture e)) = (records : List Captured) × course.stopped records (Capture e) × Listed old new (text (map packet_of records)) × NoReadFailed old new
+Lists course text old new (Some (Block e)) = (records : List Captured) × course.broken records e × Listed old new (text (map packet_of records)) × NoReadFailed old new
+Lists course text old new (Some (TooMany n)) = (records : List Captured) × course.stopped records (TooMany n) × Listed old new (text (map packet_of records)) × NoReadFailed old new
+Lists course text old new (Some ReadFault) =
+    (records : List Captured) × course.stopped records ReadFault × Listed old new (text (map packet_of records)) × Rose old.read_faults new.read_faults
+Lists course text old new (Some WriteFault) =
+    (records : List Captured) × course.ended records × GetsFront old.may_hold new.may_hold (text (map packet_of records)) × Rose old.write_faults new.write_faults × NoReadFailed old new
+-- before the first record, or at one below the limit: the lines of those before it were written
+Lists course text old new (Some NoMemory) =
+    course.begun ⊎ ((records : List Captured) × course.goes_on records × Gets old.may_hold new.may_hold (text (map packet_of records)) × NoCallFailed old new)
+Lists course text old new (Some Undrawn) = ⊥
+Lists course text old new (Some (Line k)) = ⊥
+Lists course text old new (Some (Words w)) = ⊥
+
+-- the reading of a classic capture, which had these bytes left and has these now; memory may be refused where this holds
+abbrev pub classic_course : ℕ → Option (List ℕ) → Option (List ℕ) → Type 0 → Course
+classic_course limit left now begun = record {
+  begun = begun;
+  ended = λ records. Accepts limit left records × IsAtEnd now;
+  stopped = StopsWith limit left now;
+  goes_on = λ records. (length records < limit) × GoesOn left now records;
+  broken = λ records e. ⊥;
+}
+
+-- the reading of an input as the classic capture that it stands for
+abbrev pub input_course : ℕ → Ends → Ends → Course
+input_course limit old new = record {
+  begun = Opened old new;
+  ended = λ records. Accepts limit (classic_known old.left) records × IsUnbroken old.left × IsAtEnd new.left;
+  stopped = StopsIn limit old.left new.left;
+  goes_on = λ records. (length records < limit) × GoesOnIn old.left new.left records;
+  broken = λ records e. Accepts limit (classic_known old.left) records × BreaksBy old.left e;
+}
+
+-- what each outcome says of a run that lists the packets of an input
 abbrev pub ExplainsListing : ℕ → (List PacketInfo → List ℕ) → Ends → Ends → Option TopFault → Type 0
-ExplainsListing limit text old new None =
-    (records : List Captured) × Accepts limit old.left records × IsAtEnd new.left × Gets old.may_hold new.may_hold (text (map packet_of records)) × NoCallFailed old new
-ExplainsListing limit text old new (Some (Capture e)) =
-    (records : List Captured) × StopsWith limit old.left new.left records (Capture e) × Listed old new (text (map packet_of records)) × NoReadFailed old new
-ExplainsListing limit text old new (Some (TooMany n)) =
-    (records : List Captured) × StopsWith limit old.left new.left records (TooMany n) × Listed old new (text (map packet_of records)) × NoReadFailed old new
-ExplainsListing limit text old new (Some ReadFault) =
-    (records : List Captured) × StopsWith limit old.left new.left records ReadFault × Listed old new (text (map packet_of records)) × Rose old.read_faults new.read_faults
-ExplainsListing limit text old new (Some WriteFault) =
-    (records : List Captured) × Accepts limit old.left records × IsAtEnd new.left × GetsFront old.may_hold new.may_hold (text (map packet_of records)) × Rose old.write_faults new.write_faults × NoReadFailed old new
--- before the first read, or at a record below the limit: the lines of those before it were written
-ExplainsListing limit text old new (Some NoMemory) =
-    Untouched old new
-    ⊎ ((records : List Captured) × (length records < limit) × GoesOn old.left new.left records × Gets old.may_hold new.may_hold (text (map packet_of records)) × NoCallFailed old new)
-ExplainsListing limit text old new (Some Undrawn) = ⊥
-ExplainsListing limit text old new (Some (Line k)) = ⊥
-ExplainsListing limit text old new (Some (Words w)) = ⊥
+ExplainsListing limit text old new fault = Lists (input_course limit old new) text old new fault
+
+-- the answer to a listing over an input whose blocks break so, if they do: a break behind its last record comes before a failed write
+abbrev pub with_break : Option NgBreak → Result Unit TopFault → Result Unit TopFault
+with_break None listed = listed
+with_break (Some e) (Ok u) = Err (Block e)
+with_break (Some e) (Err WriteFault) = Err (Block e)
+with_break (Some e) (Err fault) = Err fault

@@ -6,11 +6,14 @@ use Rattle.rss_base.specs.Hex.{hex_text}
 use Rattle.rss_base.specs.Written.{Gets, GetsFront}
 use Rattle.pcap_reader.specs.declared.fault.Break.{Break}
 use Rattle.pcap_reader.specs.declared.fault.Break.TheVariants.{ShortHeader, BadMagic, BadVersion, BadLink, TooLong, ShortRecord}
+use Rattle.pcapng_reader.specs.declared.fault.NgBreak.{NgBreak}
+use Rattle.pcapng_reader.specs.declared.fault.NgKind.{NgKind}
+use Rattle.pcapng_reader.specs.declared.fault.NgKind.TheVariants as breaks
 use Rattle.command_words.specs.declared.word_fault.WordFault.{WordFault}
 use Rattle.command_words.specs.declared.word_fault.WordFault.TheVariants as word
 use Rattle.command_words.specs.Words.{dashed, option_text}
 use Rattle.rsspp_main.specs.declared.fault.TopFault.{TopFault}
-use Rattle.rsspp_main.specs.declared.fault.TopFault.TheVariants.{Words, Capture, Line, ReadFault, Undrawn, WriteFault, NoMemory, TooMany}
+use Rattle.rsspp_main.specs.declared.fault.TopFault.TheVariants.{Words, Capture, Block, Line, ReadFault, Undrawn, WriteFault, NoMemory, TooMany}
 
 -- the line of a capture that is refused
 abbrev pub break_line : Break → List ℕ
@@ -22,6 +25,24 @@ break_line (TooLong at length) =
     codes "rsspp: capture refused: record " ++ (decimal at ++ (codes " has length " ++ (decimal length ++ 10 ∷ [])))
 break_line (ShortRecord at have) =
     codes "rsspp: capture refused: record " ++ (decimal at ++ (codes " ends after " ++ (decimal have ++ (codes " bytes" ++ 10 ∷ []))))
+
+-- what is wrong with a block, in a word
+abbrev pub kind_text : NgKind → List ℕ
+kind_text breaks.Short = codes "short"
+kind_text breaks.Order = codes "order"
+kind_text breaks.Length = codes "length"
+kind_text breaks.Version = codes "version"
+kind_text breaks.Interface = codes "interface"
+kind_text breaks.Link = codes "link"
+kind_text breaks.Long = codes "long"
+kind_text breaks.Tail = codes "tail"
+kind_text breaks.Interfaces = codes "interfaces"
+kind_text breaks.Blocks = codes "blocks"
+
+-- the line of a pcapng capture that is refused: the number of the block, what is wrong with it, and the number that goes with that
+abbrev pub block_line : NgBreak → List ℕ
+block_line e =
+    codes "rsspp: capture refused: block " ++ (decimal e.block ++ (codes " " ++ (kind_text e.kind ++ (codes " " ++ (decimal e.value ++ 10 ∷ [])))))
 
 -- the line of words that are refused
 abbrev pub word_line : WordFault → List ℕ
@@ -35,6 +56,7 @@ word_line (word.Option which) = codes "rsspp: bad option " ++ (dashed (option_te
 abbrev pub line_of : TopFault → List ℕ
 line_of (Words w) = word_line w
 line_of (Capture e) = break_line e
+line_of (Block e) = block_line e
 line_of (Line k) = codes "rsspp: plan refused: line " ++ (decimal k ++ 10 ∷ [])
 line_of ReadFault = codes "rsspp: read fault" ++ 10 ∷ []
 line_of Undrawn = codes "rsspp: read fault" ++ 10 ∷ []

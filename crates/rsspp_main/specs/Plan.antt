@@ -9,7 +9,7 @@ use Rattle.balancer.specs.PlanText.{plan_of}
 use Rattle.balancer.specs.declared.plan_fault.PlanFault.{PlanFault}
 use Rattle.balancer.specs.declared.plan_fault.PlanFault.TheVariants as planning
 use Rattle.rsspp_main.specs.declared.fault.TopFault.{TopFault}
-use Rattle.rsspp_main.specs.declared.fault.TopFault.TheVariants.{Words, Capture, Line, ReadFault, Undrawn, WriteFault, NoMemory, TooMany}
+use Rattle.rsspp_main.specs.declared.fault.TopFault.TheVariants.{Words, Capture, Block, Line, ReadFault, Undrawn, WriteFault, NoMemory, TooMany}
 use Rattle.rsspp_main.specs.Run.{Ends, NoCallFailed, NoReadFailed, NoWriteFailed, Silent}
 
 -- a fault of a plan, as the fault of the whole
@@ -29,5 +29,6 @@ ExplainsPlan old new (Some WriteFault) =
 ExplainsPlan old new (Some NoMemory) = Silent old new × NoCallFailed old new
 ExplainsPlan old new (Some Undrawn) = ⊥
 ExplainsPlan old new (Some (Capture e)) = ⊥
+ExplainsPlan old new (Some (Block e)) = ⊥
 ExplainsPlan old new (Some (TooMany n)) = ⊥
 ExplainsPlan old new (Some (Words w)) = ⊥

@@ -13,6 +13,9 @@ use Rattle.bucket_table.specs.Table.{TableOf}
 use Rattle.flow_report.specs.JournalText.{HasWholeRounds, journal_bytes}
 use Rattle.flow_report.specs.Tables.{SharesNoKey}
 use Rattle.dispatch_loop.specs.Terms.{Terms, buckets_of}
+use Rattle.pcapng_reader.specs.declared.fault.NgBreak.{NgBreak}
+use Rattle.pcapng_reader.specs.declared.fault.NgError.{NgError}
+use Rattle.pcapng_reader.specs.declared.fault.NgError.TheVariants as beginning
 use Rattle.rsspp_run.specs.Ends.{IsSerialRun}
 use Rattle.rsspp_run.specs.declared.run_end.RunFault.{RunFault}
 use Rattle.rsspp_run.specs.declared.run_end.RunFault.TheVariants as running
@@ -20,7 +23,7 @@ use Rattle.flow_report.specs.declared.fault.ReportFault.{ReportFault}
 use Rattle.flow_report.specs.declared.fault.ReportFault.TheVariants as writing
 use Rattle.command_words.specs.declared.command.Command.{Command}
 use Rattle.rsspp_main.specs.declared.fault.TopFault.{TopFault}
-use Rattle.rsspp_main.specs.declared.fault.TopFault.TheVariants.{Capture, ReadFault, WriteFault, NoMemory, TooMany}
+use Rattle.rsspp_main.specs.declared.fault.TopFault.TheVariants.{Capture, Block, ReadFault, WriteFault, NoMemory, TooMany}
 use Rattle.rsspp_main.specs.Run.{report_by, run_terms}
 
 -- the bucket of a flow, of so many buckets
@@ -58,13 +61,25 @@ pub record IsSerialText (packets : Option (List PacketInfo)) (report_of : List P
 abbrev pub WritesSerial : Option (List PacketInfo) → Command → ℕ → List PacketInfo → List ℕ → Type 0
 WritesSerial packets c number all text = IsSerialText packets (report_by c.options.work) c.journal (run_terms c.options) c.options.pool number all text
 
--- a fault of a run, and of a report, as the fault of the whole
+-- a fault of a run, as the fault of the whole
 abbrev pub run_fault : RunFault → TopFault
 run_fault (running.Capture e) = Capture e
 run_fault running.ReadFault = ReadFault
 run_fault (running.TooMany n) = TooMany n
 run_fault running.NoMemory = NoMemory
 
+-- the fault of a run over an input whose blocks break so, if they do: a break behind its last record comes before want of memory behind that record
+abbrev pub fault_behind : Option NgBreak → RunFault → TopFault
+fault_behind None fault = run_fault fault
+fault_behind (Some e) running.NoMemory = Block e
+fault_behind (Some e) fault = run_fault fault
+
+-- an error at the beginning of an input
+abbrev pub opening_fault : NgError → TopFault
+opening_fault beginning.NoMemory = NoMemory
+opening_fault beginning.ReadFault = ReadFault
+
+-- a fault of a report
 abbrev pub report_fault : ReportFault → TopFault
 report_fault writing.NoMemory = NoMemory
 report_fault writing.WriteFault = WriteFault

@@ -4,6 +4,7 @@ use Rattle.std.specs.Io.KnownBytes.{IsAtEnd}
 use Rattle.rss_base.specs.Faults.{Rose}
 use Rattle.rss_base.specs.Written.{Gets, GetsFront}
 use Rattle.pcap_reader.specs.Capture.{Captured}
+use Rattle.pcapng_reader.specs.declared.fault.NgBreak.{NgBreak}
 use Rattle.packet_fields.specs.declared.packet.PacketInfo.{PacketInfo}
 use Rattle.flow_work.specs.Count.{no_packets, counted, count_text}
 use Rattle.flow_work.specs.TcpFlags.{no_flags, flags_after, flags_text}
@@ -15,9 +16,11 @@ use Rattle.flow_work.specs.Costs.{cost_by}
 use Rattle.dispatch_loop.specs.OptionsView.{OptionsView}
 use Rattle.dispatch_loop.specs.Terms.{Terms, terms_of}
 use Rattle.rsspp_main.specs.declared.fault.TopFault.{TopFault}
-use Rattle.rsspp_main.specs.declared.fault.TopFault.TheVariants.{Words, Capture, Line, ReadFault, Undrawn, WriteFault, NoMemory, TooMany}
+use Rattle.rsspp_main.specs.declared.fault.TopFault.TheVariants.{Words, Capture, Block, Line, ReadFault, Undrawn, WriteFault, NoMemory, TooMany}
 use Rattle.rsspp_run.specs.OneTable.{AreAll}
-use Rattle.rsspp_main.specs.Stops.{StopsWith}
+use Rattle.pcapng_reader.specs.Lent.{TakesUpToFour, classic_known}
+use Rattle.rsspp_main.specs.Input.{IsUnbroken, BreaksBy}
+use Rattle.rsspp_main.specs.Stops.{StopsIn}
 use Rattle.flow_report.specs.Report.{report}
 
 -- what the ends of a run tell at one moment: the bytes left and the faults of the source, the faults of the output and what it may hold
@@ -52,44 +55,62 @@ pub record Untouched (old new : Ends) : Type 0 where
   pub writes : new.write_faults ≡ old.write_faults
   pub silent : Silent old new
 
--- the capture was accepted and read to its end, and `all` are its packets
-abbrev pub HasRead : ℕ → Ends → Ends → List PacketInfo → Type 0
-HasRead limit old new all = AreAll limit old.left all × IsAtEnd new.left
+-- nothing was written, and no write failed
+pub record Unwritten (old new : Ends) : Type 0 where
+  pub silent : Silent old new
+  pub writes : NoWriteFailed old new
+
+-- at most four bytes were read, nothing was written, and nothing failed
+pub record Opened (old new : Ends) : Type 0 where
+  pub few : TakesUpToFour old.left new.left
+  pub reads : NoReadFailed old new
+  pub unwritten : Unwritten old new
+
+-- the capture that these bytes stand for was accepted and read to its end, and `all` are its packets
+abbrev pub HasRead : ℕ → Option (List ℕ) → Option (List ℕ) → List PacketInfo → Type 0
+HasRead limit left now all = AreAll limit (classic_known left) all × IsUnbroken left × IsAtEnd now
+
+-- a block of the capture breaks behind its last record: `all` are the packets before it
+abbrev pub HasBroken : ℕ → Option (List ℕ) → NgBreak → List PacketInfo → Type 0
+HasBroken limit left e all = AreAll limit (classic_known left) all × BreaksBy left e
+
+-- what a run that ended before its text says of its input: of the bytes before and now, and of the counts of failed reads
+abbrev pub Refused : ℕ → Option (List ℕ) → Option (List ℕ) → ℕ → ℕ → TopFault → Type 0
+Refused limit left now before after (Capture e) = ((records : List Captured) × StopsIn limit left now records (Capture e)) × (after ≡ before)
+Refused limit left now before after (Block e) = ((all : List PacketInfo) × HasBroken limit left e all) × (after ≡ before)
+Refused limit left now before after (TooMany n) = ((records : List Captured) × StopsIn limit left now records (TooMany n)) × (after ≡ before)
+Refused limit left now before after ReadFault = ((records : List Captured) × StopsIn limit left now records ReadFault) × Rose before after
+-- before the first record, or behind the last one
+Refused limit left now before after NoMemory = (TakesUpToFour left now ⊎ ((all : List PacketInfo) × HasRead limit left now all)) × (after ≡ before)
+Refused limit left now before after Undrawn = ⊥
+Refused limit left now before after WriteFault = ⊥
+Refused limit left now before after (Line k) = ⊥
+Refused limit left now before after (Words w) = ⊥
 
 -- a text that a run over these packets writes was written, and a front of it
 abbrev pub Wrote : ℕ → (List PacketInfo → List ℕ → Type 0) → Ends → Ends → Type 0
 Wrote limit Writes old new =
-    (all : List PacketInfo) × (text : List ℕ) × HasRead limit old new all × Writes all text × Gets old.may_hold new.may_hold text
+    (all : List PacketInfo) × (text : List ℕ) × HasRead limit old.left new.left all × Writes all text × Gets old.may_hold new.may_hold text
 
 abbrev pub WroteFront : ℕ → (List PacketInfo → List ℕ → Type 0) → Ends → Ends → Type 0
 WroteFront limit Writes old new =
-    (all : List PacketInfo) × (text : List ℕ) × HasRead limit old new all × Writes all text × GetsFront old.may_hold new.may_hold text
-
--- the reading of the capture stopped behind some records with this fault, and nothing was written
-abbrev pub Stopped : ℕ → Ends → Ends → TopFault → Type 0
-Stopped limit old new fault = (records : List Captured) × StopsWith limit old.left new.left records fault × Silent old new
+    (all : List PacketInfo) × (text : List ℕ) × HasRead limit old.left new.left all × Writes all text × GetsFront old.may_hold new.may_hold text
 
 -- what each outcome says of a run that reads a whole capture before it writes a text of its packets; None is the outcome of a run that was done
 abbrev pub Explains : ℕ → (List PacketInfo → List ℕ → Type 0) → Ends → Ends → Option TopFault → Type 0
 Explains limit Writes old new None = Wrote limit Writes old new × NoCallFailed old new
-Explains limit Writes old new (Some (Capture e)) = Stopped limit old new (Capture e) × NoCallFailed old new
-Explains limit Writes old new (Some (TooMany n)) = Stopped limit old new (TooMany n) × NoCallFailed old new
-Explains limit Writes old new (Some ReadFault) = Stopped limit old new ReadFault × Rose old.read_faults new.read_faults × NoWriteFailed old new
 Explains limit Writes old new (Some WriteFault) = WroteFront limit Writes old new × Rose old.write_faults new.write_faults × NoReadFailed old new
--- before the first read, behind the last one, or within the text
+-- before the text, or within it
 Explains limit Writes old new (Some NoMemory) =
-    Untouched old new
-    ⊎ (((all : List PacketInfo) × HasRead limit old new all × Silent old new × NoCallFailed old new)
-    ⊎ (WroteFront limit Writes old new × NoCallFailed old new))
-Explains limit Writes old new (Some Undrawn) = ⊥
-Explains limit Writes old new (Some (Line k)) = ⊥
-Explains limit Writes old new (Some (Words w)) = ⊥
+    (Refused limit old.left new.left old.read_faults new.read_faults NoMemory × Unwritten old new) ⊎ (WroteFront limit Writes old new × NoCallFailed old new)
+Explains limit Writes old new (Some fault) = Refused limit old.left new.left old.read_faults new.read_faults fault × Unwritten old new
 
 -- what each outcome says of a run that writes this text and reads nothing
 abbrev pub ExplainsText : List ℕ → Ends → Ends → Option TopFault → Type 0
 ExplainsText text old new None = Gets old.may_hold new.may_hold text × (new.left ≡ old.left) × NoReadFailed old new × NoWriteFailed old new
 ExplainsText text old new (Some WriteFault) = GetsFront old.may_hold new.may_hold text × Rose old.write_faults new.write_faults × (new.left ≡ old.left) × NoReadFailed old new
 ExplainsText text old new (Some (Capture e)) = ⊥
+ExplainsText text old new (Some (Block e)) = ⊥
 ExplainsText text old new (Some (TooMany n)) = ⊥
 ExplainsText text old new (Some ReadFault) = ⊥
 ExplainsText text old new (Some Undrawn) = ⊥

@@ -3,6 +3,7 @@ ghost use Rattle.rsspp_main.specs.Status.{status_of};
 
 use command_words::WordFault;
 use pcap_reader::Break;
+use pcapng_reader::NgBreak;
 
 /// Why a run wasn't done.
 #[derive(Clone, Copy, Debug, PartialEq, Eq)]
@@ -11,6 +12,8 @@ pub enum TopFault {
     Words(WordFault),
     /// The capture breaks so.
     Capture(Break),
+    /// This block of a pcapng capture is its first that breaks.
+    Block(NgBreak),
     /// This line of the plan text, counted from 1, is its first bad one.
     Line { line: u32 },
     /// The source failed to read.
@@ -35,6 +38,7 @@ impl TopFault {
         match *self {
             TopFault::Words(_) => 2,
             TopFault::Capture(_) => 3,
+            TopFault::Block(_) => 3,
             TopFault::Line { line: _ } => 3,
             TopFault::ReadFault => 4,
             TopFault::Undrawn => 4,

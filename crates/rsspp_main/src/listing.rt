@@ -1,8 +1,8 @@
 // The hash, bucket and core of each packet, a line as it comes.
-ghost use Rattle.std.specs.Prelude.{◌≡◌, ◌<◌, [], true, false, length, None, Some, Ok, Err, OnOk, OnErr, IfOk, IfErr, MatchResult};
+ghost use Rattle.std.specs.Prelude.{◌≡◌, ◌<◌, ℕ, List, [], true, false, length, Option, None, Some, Ok, Err, OnOk, OnErr, IfOk, IfErr, MatchResult};
 ghost use Rattle.rss_base.specs.Faults.{Rose};
 ghost use Rattle.rss_base.specs.Written.{Gets};
-ghost use Rattle.rsspp_main.specs.Listing.{hash_line, listing, IsListed, ExplainsListing};
+ghost use Rattle.rsspp_main.specs.Listing.{hash_line, listing, classic_course, IsListed, Lists};
 ghost use Rattle.rsspp_main.specs.Run.{ends};
 ghost use Rattle.rsspp_main.specs.Stops.{top_fault};
 
@@ -102,7 +102,7 @@ fn ended(failed: bool) -> Result<(), TopFault>
     }
 }
 
-/// Reads a whole capture, and writes a line for each packet as it comes: its number, hash, bucket
+/// Reads a whole classic capture, and writes a line for each packet as it comes: its number, hash, bucket
 /// and core, and the text of its key. After a failed write nothing more is written, and the
 /// capture is read to its end all the same, so that what is wrong with it is told first.
 pub fn list_hashes<S: Source, K: Sink>(
@@ -113,10 +113,11 @@ pub fn list_hashes<S: Source, K: Sink>(
     source: &mut S,
     out: &mut K,
 ) -> Result<(), TopFault>
-    ensures outcome { let before = ends (S.left source.old) (S.faults source.old) (K.faults out.old) (K.may_hold out.old) in
-        let now = ends (S.left source.new) (S.faults source.new) (K.faults out.new) (K.may_hold out.new) in
-        let explains = ExplainsListing limit (listing key.now spread.now.owners) before now in
-        MatchResult result (λ _. explains None) (λ fault. explains (Some fault)) }
+    ensures outcome { (left rest : Option (List ℕ)) → let before = ends left (S.faults source.old) (K.faults out.old) (K.may_hold out.old) in
+        let now = ends rest (S.faults source.new) (K.faults out.new) (K.may_hold out.new) in
+        let begun = (source.new ≡ source.old) × (out.new ≡ out.old) in
+        let lists = Lists (classic_course limit (S.left source.old) (S.left source.new) begun) (listing key.now spread.now.owners) before now in
+        MatchResult result (λ _. lists None) (λ fault. lists (Some fault)) }
     ensures origin { S.origin source.new ≡ S.origin source.old }
 {
     let mut text = match line_text(alloc) {

@@ -6,6 +6,7 @@
 
 mod demo;
 mod fault;
+mod input;
 mod listing;
 mod modes;
 mod named;

@@ -8,9 +8,11 @@ ghost use Rattle.rsspp_main.specs.Plan.{plan_fault, ExplainsPlan};
 ghost use Rattle.rsspp_main.specs.Run.{ends};
 
 use crate::TopFault;
+use crate::input::{answer_to_listing, fault_of_opening};
 use crate::listing::list_hashes;
 use balancer::{PlanFault, plan_text};
 use command_words::Command;
+use pcapng_reader::{NgOpening, NgSource};
 use rss_base::{Sink, Source};
 use std::alloc::Global;
 use toeplitz::KeyTables;
@@ -36,7 +38,22 @@ pub fn hash_listing<S: Source, K: Sink>(
         Ok(key) => key,
         Err(_) => return Err(TopFault::NoMemory),
     };
-    list_hashes(alloc, options.packets, &key, &options.start, source, out)
+    let opening = match NgOpening::read(alloc, source) {
+        Ok(opening) => opening,
+        Err(error) => return Err(fault_of_opening(error)),
+    };
+    let mut input = NgSource::over(opening, source);
+    let listed = list_hashes(
+        alloc,
+        options.packets,
+        &key,
+        &options.start,
+        &mut input,
+        out,
+    );
+    let broken = input.broken();
+    let _ = input.into_inner();
+    answer_to_listing(listed, broken)
 }
 
 // The fault that a fault of a plan is.

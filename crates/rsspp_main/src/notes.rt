@@ -2,11 +2,12 @@
 ghost use Rattle.std.specs.Prelude.{◌≡◌, OnOk, OnErr};
 ghost use Rattle.rss_base.specs.Faults.{HasCause};
 ghost use Rattle.rss_base.specs.Written.{Gets, GetsFront};
-ghost use Rattle.rsspp_main.specs.Notes.{line_of, break_line, word_line};
+ghost use Rattle.rsspp_main.specs.Notes.{line_of, break_line, block_line, kind_text, word_line};
 
 use crate::TopFault;
 use command_words::WordFault;
 use pcap_reader::Break;
+use pcapng_reader::{NgBreak, NgKind};
 use rss_base::{Failed, Piece, Sink, write_pieces};
 
 // Writes the line of a capture that is refused.
@@ -73,6 +74,44 @@ fn write_break<F: Sink>(e: Break, notes: &mut F) -> Result<(), Failed>
     }
 }
 
+// The word of what is wrong with a block.
+fn kind_word(kind: NgKind) -> &'static str
+    ensures { result.now ≡ kind_text kind }
+{
+    match kind {
+        NgKind::Short => "short",
+        NgKind::Order => "order",
+        NgKind::Length => "length",
+        NgKind::Version => "version",
+        NgKind::Interface => "interface",
+        NgKind::Link => "link",
+        NgKind::Long => "long",
+        NgKind::Tail => "tail",
+        NgKind::Interfaces => "interfaces",
+        NgKind::Blocks => "blocks",
+    }
+}
+
+// Writes the line of a pcapng capture that is refused.
+fn write_block<F: Sink>(e: NgBreak, notes: &mut F) -> Result<(), Failed>
+    ensures ok { OnOk result (Gets (F.may_hold notes.old) (F.may_hold notes.new) (block_line e)) }
+    ensures err { OnErr result (GetsFront (F.may_hold notes.old) (F.may_hold notes.new) (block_line e)) }
+    ensures cause { HasCause (F.faults notes.old) (F.faults notes.new) result }
+{
+    write_pieces(
+        notes,
+        &[
+            Piece::Bytes(b"rsspp: capture refused: block "),
+            Piece::Number(u64::from(e.block)),
+            Piece::Bytes(b" "),
+            Piece::Bytes(kind_word(e.kind).as_bytes()),
+            Piece::Bytes(b" "),
+            Piece::Number(u64::from(e.value)),
+            Piece::Bytes(b"\n"),
+        ],
+    )
+}
+
 // Writes the line of words that are refused.
 fn write_word_fault<F: Sink>(fault: WordFault, notes: &mut F) -> Result<(), Failed>
     ensures ok { OnOk result (Gets (F.may_hold notes.old) (F.may_hold notes.new) (word_line fault)) }
@@ -104,6 +143,7 @@ pub fn fault_line<F: Sink>(fault: &TopFault, notes: &mut F) -> Result<(), Failed
     match *fault {
         TopFault::Words(fault) => write_word_fault(fault, notes),
         TopFault::Capture(e) => write_break(e, notes),
+        TopFault::Block(e) => write_block(e, notes),
         TopFault::Line { line } => write_pieces(
             notes,
             &[

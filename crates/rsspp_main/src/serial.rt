@@ -15,9 +15,12 @@ ghost use Rattle.rsspp_run.specs.Ends.{IsSerialRun};
 ghost use Rattle.rsspp_run.specs.OneTable.{AreAll};
 ghost use Rattle.rsspp_run.specs.Refused.{Refuses, HasRunCause};
 ghost use Rattle.rsspp_main.specs.Reports.{AreShown, IsReportable, IsSerialText, WritesSerial, bucket_by, journal_part, report_fault, run_fault};
-ghost use Rattle.rsspp_main.specs.Run.{ends, Explains};
+ghost use Rattle.pcapng_reader.specs.Lent.{classic_known};
+ghost use Rattle.rsspp_main.specs.Input.{IsUnbroken};
+ghost use Rattle.rsspp_main.specs.Run.{ends, Explains, Refused};
 
 use crate::TopFault;
+use crate::input::{fault_of_opening, fault_of_run_over};
 use bucket_table::{Custody, FlowHashKey};
 use command_words::Command;
 use dispatch_loop::Options;
@@ -25,6 +28,7 @@ use flow_report::{ReportFault, journal_text, report, standing_tables};
 use flow_work::{Count, FlowWork, Gaps, OrderFold, TcpFlags, WorkName};
 use indirection::Journal;
 use packet_fields::RunName;
+use pcapng_reader::{NgOpening, NgSource};
 use rss_base::{Sink, Source};
 use rsspp_run::{RunEnd, RunFault, run_serial, tables_share_the_packets};
 use std::alloc::Global;
@@ -51,7 +55,7 @@ pub fn fault_of_report(fault: ReportFault) -> TopFault
     }
 }
 
-/// Runs a capture on one thread, and answers tables and a journal that can be written: together
+/// Runs a classic capture on one thread, and answers tables and a journal that can be written: together
 /// the tables stand for the packets that the report is to show.
 pub fn run_to_report<N: RunName, S: Source, W: FlowWork>(
     alloc: Global,
@@ -78,6 +82,44 @@ pub fn run_to_report<N: RunName, S: Source, W: FlowWork>(
     standing_tables::<W>();
     tables_share_the_packets::<W>();
     run_serial::<N, S, W>(alloc, options, hashing, work, source, number)
+}
+
+// Runs the capture on a source on one thread: the classic one that its bytes stand for. Answers what
+// `run_to_report` does, unless a block breaks.
+fn run_input<N: RunName, S: Source, W: FlowWork>(
+    alloc: Global,
+    options: &Options,
+    hashing: &FlowHashKey,
+    work: &W,
+    source: &mut S,
+    number: u32,
+) -> Result<RunEnd<W>, TopFault>
+    requires accepted { IsAccepted options.now }
+    requires named { AreNamed N.packets options.now.packets (classic_known (S.left source.old)) }
+    ensures run { IfOk result (λ end. (all : List PacketInfo) × AreAll options.now.packets (classic_known (S.left source.old)) all
+        × IsSerialRun (terms_of W.cost_of options.now) options.now.pool number all end.journal end.custody.items end.worked.items
+        × (shown : List PacketInfo) × AreShown N.packets (terms_of W.cost_of options.now) all shown
+        × StandTogether W.opening W.after (bucket_by options.now.key (length options.now.start.owners)) shown end.tables.items) }
+    ensures ready { IfOk result (λ end. IsReportable end.tables.items end.journal.entries) }
+    ensures whole { OnOk result (IsUnbroken (S.left source.old) × IsAtEnd (S.left source.new) × (S.faults source.new ≡ S.faults source.old)) }
+    ensures refused { IfErr result (λ fault. Refused options.now.packets (S.left source.old) (S.left source.new) (S.faults source.old) (S.faults source.new) fault) }
+    ensures origin { S.origin source.new ≡ S.origin source.old }
+{
+    let opening = match NgOpening::read(alloc, source) {
+        Ok(opening) => opening,
+        Err(error) => return Err(fault_of_opening(error)),
+    };
+    let mut input = NgSource::over(opening, source);
+    let run = run_to_report::<N, _, W>(alloc, options, hashing, work, &mut input, number);
+    let broken = input.broken();
+    let _ = input.into_inner();
+    match run {
+        Ok(end) => match broken {
+            Some(e) => Err(TopFault::Block(e)),
+            None => Ok(end),
+        },
+        Err(fault) => Err(fault_of_run_over(fault, broken)),
+    }
 }
 
 // Writes the journal and the custody of a run, where they are asked for.
@@ -133,7 +175,7 @@ fn report_by<N: RunName, S: Source, W: FlowWork, K: Sink>(
     out: &mut K,
 ) -> Result<(), TopFault>
     requires accepted { IsAccepted command.now.options }
-    requires named { AreNamed N.packets command.now.options.packets (S.left source.old) }
+    requires named { AreNamed N.packets command.now.options.packets (classic_known (S.left source.old)) }
     ensures outcome { let before = ends (S.left source.old) (S.faults source.old) (K.faults out.old) (K.may_hold out.old) in
         let now = ends (S.left source.new) (S.faults source.new) (K.faults out.new) (K.may_hold out.new) in
         let options = command.now.options in
@@ -142,16 +184,9 @@ fn report_by<N: RunName, S: Source, W: FlowWork, K: Sink>(
         MatchResult result (λ _. explains None) (λ fault. explains (Some fault)) }
     ensures origin { S.origin source.new ≡ S.origin source.old }
 {
-    let end = match run_to_report::<N, S, W>(
-        alloc,
-        &command.options,
-        hashing,
-        work,
-        source,
-        number,
-    ) {
+    let end = match run_input::<N, S, W>(alloc, &command.options, hashing, work, source, number) {
         Ok(end) => end,
-        Err(fault) => return Err(fault_of_run(fault)),
+        Err(fault) => return Err(fault),
     };
     match write_run(alloc, command.journal, work, &end, out) {
         Ok(()) => Ok(()),
@@ -178,7 +213,7 @@ pub fn serial_report<N: RunName, S: Source, K: Sink>(
     out: &mut K,
 ) -> Result<(), TopFault>
     requires accepted { IsAccepted command.now.options }
-    requires named { AreNamed N.packets command.now.options.packets (S.left source.old) }
+    requires named { AreNamed N.packets command.now.options.packets (classic_known (S.left source.old)) }
     ensures outcome { let before = ends (S.left source.old) (S.faults source.old) (K.faults out.old) (K.may_hold out.old) in
         let now = ends (S.left source.new) (S.faults source.new) (K.faults out.new) (K.may_hold out.new) in
         let explains = Explains command.now.options.packets (WritesSerial N.packets command.now number) before now in

@@ -12,6 +12,7 @@ mod journals;
 mod lots;
 mod meeting;
 mod named;
+mod pcapng;
 mod plans;
 mod process;
 mod rows;

@@ -11,11 +11,14 @@ ghost use Rattle.threaded_run.specs.Threaded.{IsThreadedRun};
 ghost use Rattle.rsspp_run.specs.OneTable.{AreAll};
 ghost use Rattle.rsspp_run.specs.Refused.{Refuses, HasRunCause};
 ghost use Rattle.rsspp_main.specs.Reports.{AreShown, IsReportable, bucket_by};
-ghost use Rattle.rsspp_main.specs.Run.{ends, Explains};
+ghost use Rattle.pcapng_reader.specs.Lent.{classic_known};
+ghost use Rattle.rsspp_main.specs.Input.{IsUnbroken};
+ghost use Rattle.rsspp_main.specs.Run.{ends, Explains, Refused};
 ghost use Rattle.rsspp_main.specs.Run as commands;
 ghost use Rattle.rsspp_main.specs.Threads.{IsThreadedText};
 
-use crate::serial::{fault_of_report, fault_of_run, work_of, write_run};
+use crate::input::{fault_of_opening, fault_of_run_over};
+use crate::serial::{fault_of_report, work_of, write_run};
 use crate::{TopFault, Trace};
 use bucket_table::FlowHashKey;
 use command_words::Command;
@@ -23,6 +26,7 @@ use dispatch_loop::Options;
 use flow_report::standing_tables;
 use flow_work::{Count, FlowWork, Gaps, OrderFold, TcpFlags, WorkName};
 use packet_fields::RunName;
+use pcapng_reader::{NgOpening, NgSource};
 use rss_base::{Gate, Sink, Source};
 use rsspp_run::{RunEnd, RunFault, tables_share_the_packets};
 use std::alloc::Global;
@@ -30,7 +34,7 @@ use std::sync::Wait;
 use std::thread::Threads;
 use threaded_run::run_threads;
 
-/// Runs a capture in threads, and answers tables and a journal that can be written: together the
+/// Runs a classic capture in threads, and answers tables and a journal that can be written: together the
 /// tables stand for the packets that the report is to show.
 pub fn threads_to_report<
     N: RunName + Send + Sync + Drop,
@@ -65,6 +69,54 @@ pub fn threads_to_report<
     standing_tables::<W>();
     tables_share_the_packets::<W>();
     run_threads::<N, S, W, G, R>(rt, alloc, options, hashing, work, source, gate)
+}
+
+// Runs the capture on a source in threads: the classic one that its bytes stand for. Answers what
+// `threads_to_report` does, unless a block breaks.
+fn threads_over_input<
+    N: RunName + Send + Sync + Drop,
+    S: Source,
+    W: FlowWork + Send + Sync + Drop,
+    G: Gate + Sync,
+    R: Threads + Wait + Sync,
+>(
+    rt: &R,
+    alloc: Global,
+    options: &Options,
+    hashing: &FlowHashKey,
+    work: &W,
+    source: &mut S,
+    gate: &G,
+) -> Result<RunEnd<W>, TopFault>
+    requires accepted { IsAccepted options.now }
+    requires named { AreNamed N.packets options.now.packets (classic_known (S.left source.old)) }
+    ensures run { IfOk result (λ end. (all : List PacketInfo) × AreAll options.now.packets (classic_known (S.left source.old)) all
+        × IsThreadedRun (terms_of W.cost_of options.now) all end.journal end.custody.items end.worked.items end.notes.items end.shelf
+        × (shown : List PacketInfo) × AreShown N.packets (terms_of W.cost_of options.now) all shown
+        × StandTogether W.opening W.after (bucket_by options.now.key (length options.now.start.owners)) shown end.tables.items) }
+    ensures ready { IfOk result (λ end. IsReportable end.tables.items end.journal.entries) }
+    ensures shelf { IfOk result (λ end. IsSome end.shelf) }
+    ensures whole { OnOk result (IsUnbroken (S.left source.old) × IsAtEnd (S.left source.new) × (S.faults source.new ≡ S.faults source.old)) }
+    ensures refused { IfErr result (λ fault. Refused options.now.packets (S.left source.old) (S.left source.new) (S.faults source.old) (S.faults source.new) fault) }
+    ensures origin { S.origin source.new ≡ S.origin source.old }
+{
+    let opening = match NgOpening::read(alloc, source) {
+        Ok(opening) => opening,
+        Err(error) => return Err(fault_of_opening(error)),
+    };
+    let mut input = NgSource::over(opening, source);
+    let run = threads_to_report::<N, _, W, G, R>(
+        rt, alloc, options, hashing, work, &mut input, gate,
+    );
+    let broken = input.broken();
+    let _ = input.into_inner();
+    match run {
+        Ok(end) => match broken {
+            Some(e) => Err(TopFault::Block(e)),
+            None => Ok(end),
+        },
+        Err(fault) => Err(fault_of_run_over(fault, broken)),
+    }
 }
 
 /// What a run in threads leaves beside its tables.
@@ -115,7 +167,7 @@ fn threaded_by<
     gate: &G,
 ) -> Result<Trace, TopFault>
     requires accepted { IsAccepted command.now.options }
-    requires named { AreNamed N.packets command.now.options.packets (S.left source.old) }
+    requires named { AreNamed N.packets command.now.options.packets (classic_known (S.left source.old)) }
     ensures outcome { let before = ends (S.left source.old) (S.faults source.old) (K.faults out.old) (K.may_hold out.old) in
         let now = ends (S.left source.new) (S.faults source.new) (K.faults out.new) (K.may_hold out.new) in
         let options = command.now.options in
@@ -123,7 +175,7 @@ fn threaded_by<
         MatchResult result (λ run. Explains options.packets (writes (Some run)) before now None) (λ fault. Explains options.packets (writes None) before now (Some fault)) }
     ensures origin { S.origin source.new ≡ S.origin source.old }
 {
-    let end = match threads_to_report::<N, S, W, G, R>(
+    let end = match threads_over_input::<N, S, W, G, R>(
         rt,
         alloc,
         &command.options,
@@ -133,7 +185,7 @@ fn threaded_by<
         gate,
     ) {
         Ok(end) => end,
-        Err(fault) => return Err(fault_of_run(fault)),
+        Err(fault) => return Err(fault),
     };
     match write_run(alloc, command.journal, work, &end, out) {
         Ok(()) => Ok(trace_of(end)),
@@ -161,7 +213,7 @@ pub fn threaded_report<
     gate: &G,
 ) -> Result<Trace, TopFault>
     requires accepted { IsAccepted command.now.options }
-    requires named { AreNamed N.packets command.now.options.packets (S.left source.old) }
+    requires named { AreNamed N.packets command.now.options.packets (classic_known (S.left source.old)) }
     ensures outcome { let before = ends (S.left source.old) (S.faults source.old) (K.faults out.old) (K.may_hold out.old) in
         let now = ends (S.left source.new) (S.faults source.new) (K.faults out.new) (K.may_hold out.new) in
         let options = command.now.options in

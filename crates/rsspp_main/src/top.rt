@@ -2,6 +2,9 @@
 ghost use Rattle.std.specs.Prelude.{◌≡◌, ◌<◌, ◌≤◌, ◌⊎◌, List, ℕ, Option, None, Some, Ok, Err, IsSome, IsTrue, map, MatchResult};
 ghost use Rattle.std.specs.String.{string_bytes};
 ghost use Rattle.rss_base.specs.Faults.{NoneFailed};
+ghost use Rattle.pcapng_reader.specs.Classic.{classic_of, break_of};
+ghost use Rattle.pcapng_reader.specs.Lent.{classic_known};
+ghost use Rattle.pcapng_reader.specs.declared.fault.NgBreak.{NgBreak};
 ghost use Rattle.pcap_reader.specs.StreamEnd.{Whole, Broken, TooMany, EndsStream};
 ghost use Rattle.pcap_reader.specs.declared.fault.Break.{Break};
 ghost use Rattle.balancer.specs.PlanForm.{Instance, instance_of};
@@ -75,7 +78,7 @@ fn run_report<
     gate: &G,
 ) -> Result<Option<Trace>, TopFault>
     requires accepted { IsAccepted command.now.options }
-    requires named { AreNamed N.packets command.now.options.packets (S.left source.old) }
+    requires named { AreNamed N.packets command.now.options.packets (classic_known (S.left source.old)) }
     ensures outcome { let before = ends (S.left source.old) (S.faults source.old) (K.faults out.old) (K.may_hold out.old) in
         let now = ends (S.left source.new) (S.faults source.new) (K.faults out.new) (K.may_hold out.new) in
         let c = command.now in
@@ -253,21 +256,28 @@ pub fn rsspp<
     ensures undrawn { (c : Command) → command_of (map string_bytes words.now) ≡ Ok c → MakesTables c.mode → hashing ≡ None
         → (result.status ≡ 4) ⊎ (result.status ≡ 6) }
 
-    // A whole capture is reported or listed where no call fails, unless memory runs out.
+    // A whole capture is reported or listed where no call fails, unless memory runs out. Of a pcapng
+    // capture that is the classic one that it stands for, and no block may break.
     ensures done { (c : Command) (bytes : List ℕ) → command_of (map string_bytes words.now) ≡ Ok c → ReadsCapture c.mode → HasNumbers hashing c.mode
-        → S.left source.old ≡ Some bytes → EndsStream c.options.packets bytes Whole
+        → S.left source.old ≡ Some bytes → EndsStream c.options.packets (classic_of bytes) Whole → break_of bytes ≡ None
         → NoneFailed (S.faults source.old) (S.faults source.new) → NoneFailed (K.faults out.old) (K.faults out.new)
         → (result.status ≡ 0) ⊎ (result.status ≡ 6) }
 
     // A broken capture is refused where no read fails, unless memory runs out.
     ensures broken { (c : Command) (bytes : List ℕ) (e : Break) → command_of (map string_bytes words.now) ≡ Ok c → ReadsCapture c.mode → HasNumbers hashing c.mode
-        → S.left source.old ≡ Some bytes → EndsStream c.options.packets bytes (Broken e)
+        → S.left source.old ≡ Some bytes → EndsStream c.options.packets (classic_of bytes) (Broken e)
         → NoneFailed (S.faults source.old) (S.faults source.new)
         → (result.status ≡ 3) ⊎ (result.status ≡ 6) }
 
-    // So is one of more packets than the limit.
+    // So is one of which a block breaks behind no more records than the limit.
+    ensures block { (c : Command) (bytes : List ℕ) (e : NgBreak) → command_of (map string_bytes words.now) ≡ Ok c → ReadsCapture c.mode → HasNumbers hashing c.mode
+        → S.left source.old ≡ Some bytes → EndsStream c.options.packets (classic_of bytes) Whole → break_of bytes ≡ Some e
+        → NoneFailed (S.faults source.old) (S.faults source.new)
+        → (result.status ≡ 3) ⊎ (result.status ≡ 6) }
+
+    // And so is one of more packets than the limit.
     ensures too_many { (c : Command) (bytes : List ℕ) → command_of (map string_bytes words.now) ≡ Ok c → ReadsCapture c.mode → HasNumbers hashing c.mode
-        → S.left source.old ≡ Some bytes → EndsStream c.options.packets bytes TooMany
+        → S.left source.old ≡ Some bytes → EndsStream c.options.packets (classic_of bytes) TooMany
         → NoneFailed (S.faults source.old) (S.faults source.new)
         → (result.status ≡ 7) ⊎ (result.status ≡ 6) }
 

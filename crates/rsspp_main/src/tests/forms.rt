@@ -53,7 +53,7 @@ fn each_kind_of_capture_tells_its_times(rt: HostRuntime) -> Result<(), Fail> {
 #[test]
 fn another_format_is_refused(rt: HostRuntime) -> Result<(), Fail> {
     let mut other = HEADER;
-    other[..4].copy_from_slice(&[0x0a, 0x0d, 0x0d, 0x0a]);
+    other[..4].copy_from_slice(&[0x0a, 0x0d, 0x0d, 0x0b]);
     assert!(rt;
         reports(
             &rt,
@@ -61,7 +61,7 @@ fn another_format_is_refused(rt: HostRuntime) -> Result<(), Fail> {
             &other,
             3,
             "",
-            "rsspp: capture refused: magic 0a0d0d0a\n"
+            "rsspp: capture refused: magic 0a0d0d0b\n"
         )?
     );
     let mut later = HEADER;

@@ -14,22 +14,22 @@ use Rattle.rsspp_main.proofs.Listings.{listing-push, listed_none, listed-push, f
 use Rattle.rsspp_main.proofs.listing.list_hashes.Goals as goal
 
 pub returns-in-Err-clause-outcome : goal.returns-in-Err-clause-outcome
-returns-in-Err-clause-outcome g c = inl (record { left = refl; reads = refl; writes = refl; silent = λ bytes h. h })
+returns-in-Err-clause-outcome g c = λ l r. inl (refl, refl)
 
 pub returns-in-Err-start-clause-outcome : goal.returns-in-Err-start-clause-outcome
-returns-in-Err-start-clause-outcome g c =
+returns-in-Err-start-clause-outcome g c = λ l r.
     let left = g.S.Source.left in
     let faults = g.S.Source.faults in
     let writes = g.K.Sink.faults in
     let holds = g.K.Sink.may_hold in
     let text = listing c.args.key.now c.args.spread.now.owners in
     let e = c.in-Err-start.ensures in
-    let old = ends (left c.args.source.now) (faults c.args.source.now) (writes c.args.out.now) (holds c.args.out.now) in
-    let new = ends (left c.start.new.source) (faults c.start.new.source) (writes c.args.out.now) (holds c.args.out.now) in
-    let Before : Type 0 = c.start.new.source ≡ c.args.source.now in
-    rw c.fault_of.ensures (none_listed c.args.limit text old new (top_fault c.in-Err-start.error) Before
-    (stopped_at_start c.args.limit (left c.args.source.now) (left c.start.new.source) c.in-Err-start.error Before (λ is. e.no_memory (ap Err is)) e.refused e.stops)
-    (λ same. record { left = ap left same; reads = ap faults same; writes = refl; silent = λ bytes h. h }) (listed_none _ (holds c.args.out.now)) (may_fail c.in-Err-start.error _ _ e.cause.answer))
+    let old = ends l (faults c.args.source.now) (writes c.args.out.now) (holds c.args.out.now) in
+    let new = ends r (faults c.start.new.source) (writes c.args.out.now) (holds c.args.out.now) in
+    let Before : Type 0 = (c.start.new.source ≡ c.args.source.now) × (c.args.out.now ≡ c.args.out.now) in
+    rw c.fault_of.ensures (none_listed c.args.limit text (left c.args.source.now) (left c.start.new.source) _ old new (top_fault c.in-Err-start.error)
+    (stopped_at_start c.args.limit (left c.args.source.now) (left c.start.new.source) c.in-Err-start.error Before (λ is. (e.no_memory (ap Err is), refl)) e.refused e.stops)
+    (listed_none _ (holds c.args.out.now)) (may_fail c.in-Err-start.error _ _ e.cause.answer))
 
 pub packets-init : goal.packets-init
 packets-init g c =
@@ -43,7 +43,7 @@ packets-init g c =
     }
 
 pub returns-in-Err-list_packet-clause-outcome : goal.returns-in-Err-list_packet-clause-outcome
-returns-in-Err-list_packet-clause-outcome g c =
+returns-in-Err-list_packet-clause-outcome g c = λ l r.
     let left = g.S.Source.left in
     let faults = g.S.Source.faults in
     let writes = g.K.Sink.faults in
@@ -59,14 +59,13 @@ returns-in-Err-list_packet-clause-outcome g c =
     let calm : c.packets.failed ≡ false = not_skipped c.packets.failed e.skipped in
     inr (
       rs,
-      omega (arith, so_far.records.1, c.packets-test.true),
-      goes_on (left c.args.source.now) (left c.next_packet.new.source) c.packets.reader c.next_packet.new.reader rs p more.0 more.1,
+      (omega (arith, so_far.records.1, c.packets-test.true), goes_on (left c.args.source.now) (left c.next_packet.new.source) c.packets.reader c.next_packet.new.reader rs p more.0 more.1),
       subst (λ h. Gets (holds c.args.out.now) (holds h) (text (map packet_of rs))) (sym e.err) (so_far.records.3.whole calm),
       record { reads = (c.in-Ok-Some.ensures.cause so_far.going).answer ∙ so_far.quiet; writes = ap writes e.err ∙ so_far.records.3.calm calm },
     )
 
 pub returns-in-Ok-None-clause-outcome : goal.returns-in-Ok-None-clause-outcome
-returns-in-Ok-None-clause-outcome g c =
+returns-in-Ok-None-clause-outcome g c = λ l r.
     let left = g.S.Source.left in
     let faults = g.S.Source.faults in
     let writes = g.K.Sink.faults in
@@ -77,11 +76,11 @@ returns-in-Ok-None-clause-outcome g c =
     let is = c.in-Ok-None in
     let end = next_none (left c.args.source.now) (left c.packets.source) (left c.next_packet.new.source) c.packets.reader c.next_packet.new.reader next.0 so_far.records.0
     (sym (is.is ∙ ap Ok is.field-0-is) ∙ next.1) so_far.going next.2 so_far.records.2 in
-    finished c.args.limit text (ends (left c.args.source.now) (faults c.args.source.now) (writes c.args.out.now) (holds c.args.out.now)) (ends (left c.next_packet.new.source) (faults c.next_packet.new.source) (writes c.packets.out) (holds c.packets.out)) so_far.records.0 c.packets.failed c.ended.result
+    finished c.args.limit text (left c.args.source.now) (left c.next_packet.new.source) _ (ends l (faults c.args.source.now) (writes c.args.out.now) (holds c.args.out.now)) (ends r (faults c.next_packet.new.source) (writes c.packets.out) (holds c.packets.out)) so_far.records.0 c.packets.failed c.ended.result
     (omega (arith, so_far.records.1, c.packets-test.true), end.0) end.1 ((is.ensures.cause so_far.going).answer ∙ so_far.quiet) so_far.records.3 c.ended.ensures.failed c.ended.ensures.done
 
 pub returns-in-Err-next_packet-clause-outcome : goal.returns-in-Err-next_packet-clause-outcome
-returns-in-Err-next_packet-clause-outcome g c =
+returns-in-Err-next_packet-clause-outcome g c = λ l r.
     let left = g.S.Source.left in
     let faults = g.S.Source.faults in
     let writes = g.K.Sink.faults in
@@ -91,10 +90,10 @@ returns-in-Err-next_packet-clause-outcome g c =
     let next = c.next_packet.ensures.proceeds in
     let is = c.in-Err-next_packet in
     let rs = so_far.records.0 in
-    let old = ends (left c.args.source.now) (faults c.args.source.now) (writes c.args.out.now) (holds c.args.out.now) in
-    let new = ends (left c.next_packet.new.source) (faults c.next_packet.new.source) (writes c.packets.out) (holds c.packets.out) in
+    let old = ends l (faults c.args.source.now) (writes c.args.out.now) (holds c.args.out.now) in
+    let new = ends r (faults c.next_packet.new.source) (writes c.packets.out) (holds c.packets.out) in
     let blame = subst (λ n. MayBlame is.error n (faults c.next_packet.new.source)) so_far.quiet (is.ensures.cause so_far.going).answer in
-    rw c.fault_of-in-Err-next_packet.ensures (stopped c.args.limit text old new (top_fault is.error) rs c.packets.failed
+    rw c.fault_of-in-Err-next_packet.ensures (stopped c.args.limit text (left c.args.source.now) (left c.next_packet.new.source) _ old new (top_fault is.error) rs c.packets.failed
     (stopped_later c.args.limit (left c.args.source.now) (left c.packets.source) (left c.next_packet.new.source) c.packets.reader c.next_packet.new.reader next.0 rs is.error (sym is.is ∙ next.1) so_far.going next.2 so_far.records.2 (so_far.given ∙ sym so_far.records.1) (omega (arith, so_far.records.1, c.packets-test.true)))
     so_far.records.3 (may_fail is.error _ _ blame))
 
@@ -136,7 +135,7 @@ packets-preserved g c =
     }
 
 pub returns-in-Ok-Some-next_packet-clause-outcome : goal.returns-in-Ok-Some-next_packet-clause-outcome
-returns-in-Ok-Some-next_packet-clause-outcome g c =
+returns-in-Ok-Some-next_packet-clause-outcome g c = λ l r.
     let left = g.S.Source.left in
     let faults = g.S.Source.faults in
     let writes = g.K.Sink.faults in
@@ -147,16 +146,16 @@ returns-in-Ok-Some-next_packet-clause-outcome g c =
     let is = c.in-Ok-Some-next_packet in
     let p = is.field-0-0 in
     let rs = so_far.records.0 in
-    let old = ends (left c.args.source.now) (faults c.args.source.now) (writes c.args.out.now) (holds c.args.out.now) in
-    let new = ends (left c.next_packet-2.new.source) (faults c.next_packet-2.new.source) (writes c.packets.out) (holds c.packets.out) in
+    let old = ends l (faults c.args.source.now) (writes c.args.out.now) (holds c.args.out.now) in
+    let new = ends r (faults c.next_packet-2.new.source) (writes c.packets.out) (holds c.packets.out) in
     let more = next_some (left c.args.source.now) (left c.packets.source) (left c.next_packet-2.new.source) c.packets.reader c.next_packet-2.new.reader next.0 rs p
     (sym (is.is ∙ ap Ok is.field-0-is) ∙ next.1) so_far.going next.2 so_far.records.2 in
-    stopped c.args.limit text old new (TooMany c.args.limit) rs c.packets.failed
+    stopped c.args.limit text (left c.args.source.now) (left c.next_packet-2.new.source) ((c.next_packet-2.new.source ≡ c.args.source.now) × (c.packets.out ≡ c.args.out.now)) old new (TooMany c.args.limit) rs c.packets.failed
     (refl, omega (arith, so_far.records.1, c.packets-test.false, c.packets.auto.number-end), goes_on (left c.args.source.now) (left c.next_packet-2.new.source) c.packets.reader c.next_packet-2.new.reader rs p more.0 more.1)
     so_far.records.3 ((is.ensures.cause so_far.going).answer ∙ so_far.quiet)
 
 pub returns-in-Ok-None-next_packet-clause-outcome : goal.returns-in-Ok-None-next_packet-clause-outcome
-returns-in-Ok-None-next_packet-clause-outcome g c =
+returns-in-Ok-None-next_packet-clause-outcome g c = λ l r.
     let left = g.S.Source.left in
     let faults = g.S.Source.faults in
     let writes = g.K.Sink.faults in
@@ -167,11 +166,11 @@ returns-in-Ok-None-next_packet-clause-outcome g c =
     let is = c.in-Ok-None-next_packet in
     let end = next_none (left c.args.source.now) (left c.packets.source) (left c.next_packet-2.new.source) c.packets.reader c.next_packet-2.new.reader next.0 so_far.records.0
     (sym (is.is ∙ ap Ok is.field-0-is) ∙ next.1) so_far.going next.2 so_far.records.2 in
-    finished c.args.limit text (ends (left c.args.source.now) (faults c.args.source.now) (writes c.args.out.now) (holds c.args.out.now)) (ends (left c.next_packet-2.new.source) (faults c.next_packet-2.new.source) (writes c.packets.out) (holds c.packets.out)) so_far.records.0 c.packets.failed c.ended-in-Ok-None-next_packet.result
+    finished c.args.limit text (left c.args.source.now) (left c.next_packet-2.new.source) _ (ends l (faults c.args.source.now) (writes c.args.out.now) (holds c.args.out.now)) (ends r (faults c.next_packet-2.new.source) (writes c.packets.out) (holds c.packets.out)) so_far.records.0 c.packets.failed c.ended-in-Ok-None-next_packet.result
     (omega (arith, so_far.records.1, c.packets-test.false, c.packets.auto.number-end), end.0) end.1 ((is.ensures.cause so_far.going).answer ∙ so_far.quiet) so_far.records.3 c.ended-in-Ok-None-next_packet.ensures.failed c.ended-in-Ok-None-next_packet.ensures.done
 
 pub returns-clause-outcome : goal.returns-clause-outcome
-returns-clause-outcome g c =
+returns-clause-outcome g c = λ l r.
     let left = g.S.Source.left in
     let faults = g.S.Source.faults in
     let writes = g.K.Sink.faults in
@@ -181,9 +180,9 @@ returns-clause-outcome g c =
     let next = c.next_packet-2.ensures.proceeds in
     let is = c.in-Err-next_packet-2 in
     let rs = so_far.records.0 in
-    let old = ends (left c.args.source.now) (faults c.args.source.now) (writes c.args.out.now) (holds c.args.out.now) in
-    let new = ends (left c.next_packet-2.new.source) (faults c.next_packet-2.new.source) (writes c.packets.out) (holds c.packets.out) in
+    let old = ends l (faults c.args.source.now) (writes c.args.out.now) (holds c.args.out.now) in
+    let new = ends r (faults c.next_packet-2.new.source) (writes c.packets.out) (holds c.packets.out) in
     let blame = subst (λ n. MayBlame is.error n (faults c.next_packet-2.new.source)) so_far.quiet (is.ensures.cause so_far.going).answer in
-    rw c.fault_of-in-Err-next_packet-2.ensures (stopped c.args.limit text old new (top_fault is.error) rs c.packets.failed
+    rw c.fault_of-in-Err-next_packet-2.ensures (stopped c.args.limit text (left c.args.source.now) (left c.next_packet-2.new.source) _ old new (top_fault is.error) rs c.packets.failed
     (stopped_later c.args.limit (left c.args.source.now) (left c.packets.source) (left c.next_packet-2.new.source) c.packets.reader c.next_packet-2.new.reader next.0 rs is.error (sym is.is ∙ next.1) so_far.going next.2 so_far.records.2 (so_far.given ∙ sym so_far.records.1) (omega (arith, so_far.records.1, c.packets-test.false, c.packets.auto.number-end)))
     so_far.records.3 (may_fail is.error _ _ blame))

@@ -1,5 +1,5 @@
 use Rattle.std.proofs.Common.{None, Some}
-use Rattle.rsspp_main.proofs.Complete.{said, done, broken, too_many, made, planned, bad_line, refused, shown, too_long, undrawn, words}
+use Rattle.rsspp_main.proofs.Complete.{said, done, broken, block, too_many, made, planned, bad_line, refused, shown, too_long, undrawn, words}
 use Rattle.rsspp_main.proofs.top.rsspp.Goals as goal
 
 pub returns-in-Err-clause-outcome : goal.returns-in-Err-clause-outcome
@@ -22,6 +22,9 @@ returns-in-Err-clause-done g c = rw c.status.ensures (done c.args.hashing g.N.Ru
 pub returns-in-Err-clause-broken : goal.returns-in-Err-clause-broken
 returns-in-Err-clause-broken g c = rw c.status.ensures (broken c.args.hashing g.N.RunName.packets None _ _ _ (Some c.in-Err.fault) c.in-Err.ensures.outcome)
 
+pub returns-in-Err-clause-block : goal.returns-in-Err-clause-block
+returns-in-Err-clause-block g c = rw c.status.ensures (block c.args.hashing g.N.RunName.packets None _ _ _ (Some c.in-Err.fault) c.in-Err.ensures.outcome)
+
 pub returns-in-Err-clause-too_many : goal.returns-in-Err-clause-too_many
 returns-in-Err-clause-too_many g c = rw c.status.ensures (too_many c.args.hashing g.N.RunName.packets None _ _ _ (Some c.in-Err.fault) c.in-Err.ensures.outcome)
 
@@ -39,6 +42,9 @@ returns-in-Ok-clause-refused g c = refused c.args.hashing g.N.RunName.packets c.
 
 pub returns-in-Ok-clause-broken : goal.returns-in-Ok-clause-broken
 returns-in-Ok-clause-broken g c = broken c.args.hashing g.N.RunName.packets c.in-Ok.trace _ _ _ None c.in-Ok.ensures.outcome
+
+pub returns-in-Ok-clause-block : goal.returns-in-Ok-clause-block
+returns-in-Ok-clause-block g c = block c.args.hashing g.N.RunName.packets c.in-Ok.trace _ _ _ None c.in-Ok.ensures.outcome
 
 pub returns-in-Ok-clause-too_many : goal.returns-in-Ok-clause-too_many
 returns-in-Ok-clause-too_many g c = too_many c.args.hashing g.N.RunName.packets c.in-Ok.trace _ _ _ None c.in-Ok.ensures.outcome

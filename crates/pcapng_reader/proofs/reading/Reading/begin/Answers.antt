@@ -3,7 +3,7 @@ use Rattle.pcapng_reader.specs.declared.stage.Stage.TheVariants.{Between}
 use Rattle.pcapng_reader.specs.Front.{is_section}
 use Rattle.pcapng_reader.specs.Progress.{Progress, tells}
 use Rattle.pcapng_reader.specs.Blocks.{at_first}
-use Rattle.pcapng_reader.proofs.Givings.{made, same_progress, fresh_parts, begins_pcapng, begins_plain}
+use Rattle.pcapng_reader.proofs.Givings.{made, same_progress, fresh_parts, section_first, begins_pcapng, begins_plain}
 use Rattle.pcapng_reader.proofs.reading.Reading.begin.Goals as goal
 use Rattle.pcapng_reader.proofs.reading.Reading.begin.Goals.{else-first-eq4-via-then-first-eq4+else-begins_section, else-first-eq4-via-else-first-eq4}
 
@@ -33,3 +33,8 @@ returns-else-first-eq4-clause-told c = λ rest short.
     ap (λ (p : Progress). tells p rest)
     (same_progress c.put-else-first-eq4.new.self first _ [] _ [] i.stage i.scope at_first i.number 0 ready held ahead f.4 f.5 ∙ ap (λ s. made first [] [] s at_first 0) f.3)
     ∙ begins_plain first rest c.requires.four short other
+
+pub returns-then-begins_section-clause-plain : goal.returns-then-begins_section-clause-plain
+returns-then-begins_section-clause-plain c = λ rest short other.
+    let is = section_first c.args.first.now rest c.if-first-eq4.true (sym c.begins_section.ensures ∙ c.if-begins_section.true) in
+    cc
