@@ -5,7 +5,7 @@ use Rattle.std.proofs.lemmas.Bool.{cases_Bool, cases_eq}
 use Rattle.std.proofs.lemmas.Bool.Decides.{nat_tests}
 use Rattle.indirection.specs.declared.proposal.Proposal.{Proposal}
 use Rattle.indirection.specs.Tries.{upto}
-use Rattle.balancer.specs.Greedy.{Scene, IsAllowed, may_leave, may_take, allowed, gain, proposal, choices, choices_of, greatest, ahead}
+use Rattle.balancer.specs.Greedy.{RoundState, IsAllowed, may_leave, may_take, allowed, gain, proposal, choices, choices_of, greatest, ahead}
 
 and : (x y : Bool) → x ≡ true → y ≡ true → (x && y) ≡ true
 and x y h k = subst (λ (t : Bool). (t && y) ≡ true) (sym h) k
@@ -13,7 +13,7 @@ and x y h k = subst (λ (t : Bool). (t && y) ≡ true) (sym h) k
 less_is : (a b : ℕ) → a < b → ltb a b ≡ true
 less_is a b h = grind (arith, nat_tests)
 
-pub is_allowed : (s : Scene) (b d : ℕ) → IsAllowed s b d → allowed s b d ≡ true
+pub is_allowed : (s : RoundState) (b d : ℕ) → IsAllowed s b d → allowed s b d ≡ true
 is_allowed s b d a = and (may_leave s b) (may_take s b d)
     (and _ _ (less_is _ _ a.bucket) (and _ _ (less_is _ _ a.owner) (and _ _ (less_is _ _ a.above) (and _ _ (less_is _ _ a.some) (ap not a.once)))))
     (and _ _ (less_is _ _ a.core) (and _ _ (less_is _ _ a.below) (less_is _ _ a.fits)))
@@ -46,7 +46,7 @@ unfolding Has
 Has-right p [] qs h = h
 Has-right p (q ∷ ps) qs h = inr (Has-right p ps qs h)
 
-has_in : (s : Scene) (b d : ℕ) (ds : List ℕ) → Among d ds → allowed s b d ≡ true → Has (proposal s b d) (map (λ d. proposal s b d) (filter (λ d. allowed s b d) ds))
+has_in : (s : RoundState) (b d : ℕ) (ds : List ℕ) → Among d ds → allowed s b d ≡ true → Has (proposal s b d) (map (λ d. proposal s b d) (filter (λ d. allowed s b d) ds))
 unfolding Among Has
 has_in s b d [] a h = absurd a
 has_in s b d (x ∷ ds) a h = ⊎_elim
@@ -57,14 +57,14 @@ has_in s b d (x ∷ ds) a h = ⊎_elim
     (λ (t : allowed s b x ≡ false). subst (λ (t : Bool). Has (proposal s b d) (map (λ d. proposal s b d) (cond t (x ∷ filter (λ d. allowed s b d) ds) (filter (λ d. allowed s b d) ds)))) (sym t) rest)
     (cases_Bool (allowed s b x))) a
 
-has_of : (s : Scene) (b d : ℕ) (bs : List ℕ) → Among b bs → Has (proposal s b d) (choices_of s b) → Has (proposal s b d) (flat_map (choices_of s) bs)
+has_of : (s : RoundState) (b d : ℕ) (bs : List ℕ) → Among b bs → Has (proposal s b d) (choices_of s b) → Has (proposal s b d) (flat_map (choices_of s) bs)
 unfolding Among
 has_of s b d [] a h = absurd a
 has_of s b d (x ∷ bs) a h = ⊎_elim
     (λ (e : x ≡ b). Has-left (proposal s b d) (choices_of s x) (flat_map (choices_of s) bs) (subst (λ (y : ℕ). Has (proposal s b d) (choices_of s y)) (sym e) h))
     (λ (g : Among b bs). Has-right (proposal s b d) (choices_of s x) (flat_map (choices_of s) bs) (has_of s b d bs g h)) a
 
-pub has_choice : (s : Scene) (b d : ℕ) → IsAllowed s b d → Has (proposal s b d) (choices s)
+pub has_choice : (s : RoundState) (b d : ℕ) → IsAllowed s b d → Has (proposal s b d) (choices s)
 has_choice s b d a = has_of s b d (upto (length s.owners)) (among_upto b (length s.owners) a.bucket) (has_in s b d (upto s.cores) (among_upto d s.cores a.core) (is_allowed s b d a))
 
 -- what is known of the best of a list and one more
@@ -97,8 +97,8 @@ greatest_of p q (x ∷ ps) e h = at_least x q (greatest ps) p.gain e
     (λ k. ⊎_elim (λ (f : x ≡ p). ap (λ (y : Proposal). y.gain) f) (λ (g : Has p ps). absurd (none_only p ps k g)) h)
 
 -- the proposal that is made gains the most, and none is made only where no pair is allowed
-pub best_gain : (s : Scene) (p : Proposal) (b d : ℕ) → greatest (choices s) ≡ Some p → IsAllowed s b d → gain s b d ≤ p.gain
+pub best_gain : (s : RoundState) (p : Proposal) (b d : ℕ) → greatest (choices s) ≡ Some p → IsAllowed s b d → gain s b d ≤ p.gain
 best_gain s p b d e a = greatest_of (proposal s b d) p (choices s) e (has_choice s b d a)
 
-pub none_allowed : (s : Scene) (b d : ℕ) → greatest (choices s) ≡ None → IsAllowed s b d → ⊥
+pub none_allowed : (s : RoundState) (b d : ℕ) → greatest (choices s) ≡ None → IsAllowed s b d → ⊥
 none_allowed s b d e a = none_only (proposal s b d) (choices s) e (has_choice s b d a)

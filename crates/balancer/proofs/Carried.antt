@@ -9,7 +9,7 @@ use Rattle.indirection.specs.Views.{LoadsView}
 use Rattle.indirection.specs.Tries.{upto}
 use Rattle.indirection.proofs.Upto.{length-upto}
 use Rattle.balancer.specs.Imbalance.{owned, load, core_loads}
-use Rattle.balancer.specs.Greedy.{Scene, load_in}
+use Rattle.balancer.specs.Greedy.{RoundState, load_in}
 use Rattle.balancer.specs.Standing.{AreLoads, IsWeighed}
 use Rattle.balancer.proofs.Falls.{value_at}
 
@@ -67,27 +67,27 @@ small_loads cores loads owners are few = All-from_get_or (λ load. load ≤ 2 ^ 
     let v = value_at (load loads owners) cores c g in omega arith)
 
 -- a weighed round
-pub carried_at : (s : Scene) (carried : List ℕ) → IsWeighed s carried → (c : ℕ) → c < s.cores → get_or carried c 0 ≡ load_in s c
+pub carried_at : (s : RoundState) (carried : List ℕ) → IsWeighed s carried → (c : ℕ) → c < s.cores → get_or carried c 0 ≡ load_in s c
 carried_at s carried w c h = ap (λ (z : List ℕ). get_or z c 0) w.carried_are ∙ value_at (load s.loads s.owners) s.cores c h
 
-pub length_is : (s : Scene) (carried : List ℕ) → IsWeighed s carried → length carried ≡ s.cores
+pub length_is : (s : RoundState) (carried : List ℕ) → IsWeighed s carried → length carried ≡ s.cores
 length_is s carried w = ap (λ (z : List ℕ). length z) w.carried_are ∙ (length-map (upto s.cores) (load s.loads s.owners) ∙ length-upto s.cores)
 
-pub load-le : (s : Scene) (carried : List ℕ) → IsWeighed s carried → (c : ℕ) → c < s.cores → load_in s c ≤ 2049 * 2 ^ 40
+pub load-le : (s : RoundState) (carried : List ℕ) → IsWeighed s carried → (c : ℕ) → c < s.cores → load_in s c ≤ 2049 * 2 ^ 40
 load-le s carried w c h = small_load s.cores s.loads s.owners w.loads w.buckets c h
 
-pub carried-le : (s : Scene) (carried : List ℕ) → IsWeighed s carried → (c : ℕ) → c < length carried → get_or carried c 0 ≤ 2049 * 2 ^ 40
+pub carried-le : (s : RoundState) (carried : List ℕ) → IsWeighed s carried → (c : ℕ) → c < length carried → get_or carried c 0 ≤ 2049 * 2 ^ 40
 carried-le s carried w c h = let g : c < s.cores = subst (λ (n : ℕ). c < n) (length_is s carried w) h in
     subst (λ (n : ℕ). n ≤ 2049 * 2 ^ 40) (sym (carried_at s carried w c g)) (load-le s carried w c g)
 
-pub few_cores : (s : Scene) (carried : List ℕ) → IsWeighed s carried → length carried ≤ 64
+pub few_cores : (s : RoundState) (carried : List ℕ) → IsWeighed s carried → length carried ≤ 64
 few_cores s carried w = subst (λ (n : ℕ). n ≤ 64) (sym (length_is s carried w)) w.cores
 
 pub product-le : (n x : ℕ) → n ≤ 64 → x ≤ 2049 * 2 ^ 40 → n * x ≤ 64 * (2049 * 2 ^ 40)
 product-le n x h g = let a = mul-le-mul_right x h in let b = mul-le-mul_left 64 g in omega arith
 
 -- all cores together
-pub total-le : (s : Scene) (carried : List ℕ) → IsWeighed s carried → sum carried ≤ 64 * (2049 * 2 ^ 40)
+pub total-le : (s : RoundState) (carried : List ℕ) → IsWeighed s carried → sum carried ≤ 64 * (2049 * 2 ^ 40)
 total-le s carried w =
     let a = sum_by-le (λ x. x) (2049 * 2 ^ 40) carried (All-from_get_or (λ x. x ≤ 2049 * 2 ^ 40) carried 0 (carried-le s carried w)) in
     let b = mul-le-mul_right (2049 * 2 ^ 40) (few_cores s carried w) in omega arith

@@ -10,7 +10,7 @@ use Rattle.std.proofs.lemmas.Grind.{flat_map-append}
 use Rattle.indirection.specs.declared.proposal.Proposal.{Proposal}
 use Rattle.indirection.specs.Tries.{upto}
 use Rattle.balancer.specs.Better.{better}
-use Rattle.balancer.specs.Greedy.{Scene, total_in, may_leave, may_take, allowed, proposal, choices_of, greatest, ahead, load_in}
+use Rattle.balancer.specs.Greedy.{RoundState, total_load, may_leave, may_take, allowed, proposal, choices_of, greatest, ahead, load_in}
 use Rattle.balancer.specs.Standing.{IsWeighed}
 use Rattle.balancer.proofs.Carried.{carried_at, length_is}
 
@@ -45,13 +45,13 @@ greatest-append [] ys = refl
 greatest-append (x ∷ xs) ys = ap (ahead x) (greatest-append xs ys) ∙ ahead-better x (greatest xs) (greatest ys)
 
 -- the choices of a bucket among one core more
-one_choice : (s : Scene) (b d : ℕ) → may_leave s b ≡ true → greatest (map (λ d. proposal s b d) (filter (λ d. allowed s b d) (d ∷ []))) ≡ (if may_take s b d then Some (proposal s b d) else None)
+one_choice : (s : RoundState) (b d : ℕ) → may_leave s b ≡ true → greatest (map (λ d. proposal s b d) (filter (λ d. allowed s b d) (d ∷ []))) ≡ (if may_take s b d then Some (proposal s b d) else None)
 one_choice s b d h = ap (λ (t : Bool). greatest (map (λ d. proposal s b d) (cond t (d ∷ []) []))) (and_true (may_leave s b) (may_take s b d) h) ∙ either (may_take s b d) where
   either : (t : Bool) → greatest (map (λ d. proposal s b d) (cond t (d ∷ []) [])) ≡ (if t then Some (proposal s b d) else None)
   either true = refl
   either false = refl
 
-pub best-more_cores : (s : Scene) (b n : ℕ) (best : Option Proposal) → may_leave s b ≡ true → best ≡ greatest (map (λ d. proposal s b d) (filter (λ d. allowed s b d) (upto n)))
+pub best-more_cores : (s : RoundState) (b n : ℕ) (best : Option Proposal) → may_leave s b ≡ true → best ≡ greatest (map (λ d. proposal s b d) (filter (λ d. allowed s b d) (upto n)))
     → better best (if may_take s b n then Some (proposal s b n) else None) ≡ greatest (map (λ d. proposal s b d) (filter (λ d. allowed s b d) (upto (n + 1))))
 best-more_cores s b n best h e = rw add-one (sym (
     ap (λ (z : List ℕ). greatest (map (λ d. proposal s b d) z)) (filter-append (λ d. allowed s b d) (upto n) (n ∷ []))
@@ -61,11 +61,11 @@ best-more_cores s b n best h e = rw add-one (sym (
     ∙ ap (better best) (one_choice s b n h))))))
 
 -- a bucket that may not leave its core has no choices
-pub no_choice : (s : Scene) (b : ℕ) → may_leave s b ≡ false → (ds : List ℕ) → filter (λ d. allowed s b d) ds ≡ []
+pub no_choice : (s : RoundState) (b : ℕ) → may_leave s b ≡ false → (ds : List ℕ) → filter (λ d. allowed s b d) ds ≡ []
 no_choice s b h [] = refl
 no_choice s b h (d ∷ ds) = ap (λ (t : Bool). cond t (d ∷ filter (λ d. allowed s b d) ds) (filter (λ d. allowed s b d) ds)) (and_false (may_leave s b) (may_take s b d) h) ∙ no_choice s b h ds
 
-pub best-more_buckets : (s : Scene) (n : ℕ) (best : Option Proposal) → best ≡ greatest (flat_map (choices_of s) (upto n))
+pub best-more_buckets : (s : RoundState) (n : ℕ) (best : Option Proposal) → best ≡ greatest (flat_map (choices_of s) (upto n))
     → better best (greatest (choices_of s n)) ≡ greatest (flat_map (choices_of s) (upto (n + 1)))
 best-more_buckets s n best e = rw add-one (sym (
     ap greatest (flat_map-append (choices_of s) (upto n) (n ∷ []))
@@ -80,60 +80,60 @@ any_of b (p ∷ ps) = ap (λ (t : Bool). (p.bucket == b) || t) (any_of b ps)
 
 -- the tests of a weighed round, by what the cores carry
 
-pub owner_at : (s : Scene) (carried : List ℕ) → IsWeighed s carried → (b : ℕ) → b < length s.owners → get_or s.owners b 0 < s.cores
+pub owner_at : (s : RoundState) (carried : List ℕ) → IsWeighed s carried → (b : ℕ) → b < length s.owners → get_or s.owners b 0 < s.cores
 owner_at s carried w b h = All-get_or (λ o. o < s.cores) s.owners b 0 h w.owners
 
-product_is : (s : Scene) (carried : List ℕ) → IsWeighed s carried → (c : ℕ) → c < s.cores → length carried * get_or carried c 0 ≡ s.cores * load_in s c
+product_is : (s : RoundState) (carried : List ℕ) → IsWeighed s carried → (c : ℕ) → c < s.cores → length carried * get_or carried c 0 ≡ s.cores * load_in s c
 product_is s carried w c h = ap (λ (x : ℕ). x * get_or carried c 0) (length_is s carried w) ∙ ap (λ (x : ℕ). s.cores * x) (carried_at s carried w c h)
 
-total_is : (s : Scene) (carried : List ℕ) → IsWeighed s carried → sum carried ≡ total_in s
+total_is : (s : RoundState) (carried : List ℕ) → IsWeighed s carried → sum carried ≡ total_load s
 total_is s carried w = ap (λ (z : List ℕ). sum z) w.carried_are
 
-abbrev above : Scene → ℕ → Bool
-above s b = ltb (total_in s) (s.cores * load_in s (get_or s.owners b 0))
+abbrev above : RoundState → ℕ → Bool
+above s b = ltb (total_load s) (s.cores * load_in s (get_or s.owners b 0))
 
-opened : (s : Scene) (carried : List ℕ) → IsWeighed s carried → (b : ℕ) → b < length s.owners → may_leave s b ≡ (above s b && (ltb 0 (get_or s.loads.bucket b 0) && not (list_any (λ x. x == b) s.taken)))
+opened : (s : RoundState) (carried : List ℕ) → IsWeighed s carried → (b : ℕ) → b < length s.owners → may_leave s b ≡ (above s b && (ltb 0 (get_or s.loads.bucket b 0) && not (list_any (λ x. x == b) s.taken)))
 opened s carried w b h = and_true (ltb b (length s.owners)) _ (less_is _ _ h) ∙ and_true (ltb (get_or s.owners b 0) s.cores) _ (less_is _ _ (owner_at s carried w b h))
 
-pub not_above : (s : Scene) (carried : List ℕ) → IsWeighed s carried → (b total : ℕ) → total ≡ sum carried → b < length s.owners → length carried * get_or carried (get_or s.owners b 0) 0 ≤ total → may_leave s b ≡ false
+pub not_above : (s : RoundState) (carried : List ℕ) → IsWeighed s carried → (b total : ℕ) → total ≡ sum carried → b < length s.owners → length carried * get_or carried (get_or s.owners b 0) 0 ≤ total → may_leave s b ≡ false
 not_above s carried w b total t h l =
     let p = product_is s carried w (get_or s.owners b 0) (owner_at s carried w b h) in let q = total_is s carried w in
-    opened s carried w b h ∙ and_false (above s b) _ (le-ltb (total_in s) (s.cores * load_in s (get_or s.owners b 0)) (subst (λ (x : ℕ). x ≤ total_in s) p (subst (λ (x : ℕ). length carried * get_or carried (get_or s.owners b 0) 0 ≤ x) (t ∙ q) l)))
+    opened s carried w b h ∙ and_false (above s b) _ (le-ltb (total_load s) (s.cores * load_in s (get_or s.owners b 0)) (subst (λ (x : ℕ). x ≤ total_load s) p (subst (λ (x : ℕ). length carried * get_or carried (get_or s.owners b 0) 0 ≤ x) (t ∙ q) l)))
 
-is_above : (s : Scene) (carried : List ℕ) → IsWeighed s carried → (b total : ℕ) → total ≡ sum carried → b < length s.owners → total < length carried * get_or carried (get_or s.owners b 0) 0 → above s b ≡ true
+is_above : (s : RoundState) (carried : List ℕ) → IsWeighed s carried → (b total : ℕ) → total ≡ sum carried → b < length s.owners → total < length carried * get_or carried (get_or s.owners b 0) 0 → above s b ≡ true
 is_above s carried w b total t h l =
     let p = product_is s carried w (get_or s.owners b 0) (owner_at s carried w b h) in let q = total_is s carried w in
-    less_is (total_in s) (s.cores * load_in s (get_or s.owners b 0)) (subst (λ (x : ℕ). total_in s < x) p (subst (λ (x : ℕ). x < length carried * get_or carried (get_or s.owners b 0) 0) (t ∙ q) l))
+    less_is (total_load s) (s.cores * load_in s (get_or s.owners b 0)) (subst (λ (x : ℕ). total_load s < x) p (subst (λ (x : ℕ). x < length carried * get_or carried (get_or s.owners b 0) 0) (t ∙ q) l))
 
-pub not_some : (s : Scene) (carried : List ℕ) → IsWeighed s carried → (b total : ℕ) → total ≡ sum carried → b < length s.owners → total < length carried * get_or carried (get_or s.owners b 0) 0 → get_or s.loads.bucket b 0 ≡ 0 → may_leave s b ≡ false
+pub not_some : (s : RoundState) (carried : List ℕ) → IsWeighed s carried → (b total : ℕ) → total ≡ sum carried → b < length s.owners → total < length carried * get_or carried (get_or s.owners b 0) 0 → get_or s.loads.bucket b 0 ≡ 0 → may_leave s b ≡ false
 not_some s carried w b total t h l z = opened s carried w b h ∙ (and_true (above s b) _ (is_above s carried w b total t h l)
     ∙ and_false (ltb 0 (get_or s.loads.bucket b 0)) _ (le-ltb 0 (get_or s.loads.bucket b 0) (omega arith)))
 
-pub leaves_where : (s : Scene) (carried : List ℕ) → IsWeighed s carried → (b total : ℕ) → total ≡ sum carried → b < length s.owners → total < length carried * get_or carried (get_or s.owners b 0) 0 → 0 < get_or s.loads.bucket b 0 → may_leave s b ≡ not (list_any (λ x. x == b) s.taken)
+pub leaves_where : (s : RoundState) (carried : List ℕ) → IsWeighed s carried → (b total : ℕ) → total ≡ sum carried → b < length s.owners → total < length carried * get_or carried (get_or s.owners b 0) 0 → 0 < get_or s.loads.bucket b 0 → may_leave s b ≡ not (list_any (λ x. x == b) s.taken)
 leaves_where s carried w b total t h l z = opened s carried w b h ∙ (and_true (above s b) _ (is_above s carried w b total t h l)
     ∙ and_true (ltb 0 (get_or s.loads.bucket b 0)) _ (less_is _ _ z))
 
 -- whether a core may take a bucket, by what the cores carry
 
-below_is : (s : Scene) (carried : List ℕ) → IsWeighed s carried → (d total : ℕ) → total ≡ sum carried → d < length carried → (length carried * get_or carried d 0 ≡ s.cores * load_in s d) × (total ≡ total_in s) × (d < s.cores)
+below_is : (s : RoundState) (carried : List ℕ) → IsWeighed s carried → (d total : ℕ) → total ≡ sum carried → d < length carried → (length carried * get_or carried d 0 ≡ s.cores * load_in s d) × (total ≡ total_load s) × (d < s.cores)
 below_is s carried w d total t h = let g : d < s.cores = subst (λ (n : ℕ). d < n) (length_is s carried w) h in (product_is s carried w d g, t ∙ total_is s carried w, g)
 
-pub takes : (s : Scene) (carried : List ℕ) → IsWeighed s carried → (b d total : ℕ) → total ≡ sum carried → d < length carried → length carried * get_or carried d 0 < total
+pub takes : (s : RoundState) (carried : List ℕ) → IsWeighed s carried → (b d total : ℕ) → total ≡ sum carried → d < length carried → length carried * get_or carried d 0 < total
     → may_take s b d ≡ ltb (get_or s.loads.bucket b 0) (load_in s (get_or s.owners b 0) - load_in s d)
 takes s carried w b d total t h l = let e = below_is s carried w d total t h in
-    and_true (ltb d s.cores) _ (less_is _ _ e.2) ∙ and_true (ltb (s.cores * load_in s d) (total_in s)) _ (less_is _ _ (subst (λ (x : ℕ). x < total_in s) e.0 (subst (λ (x : ℕ). length carried * get_or carried d 0 < x) e.1 l)))
+    and_true (ltb d s.cores) _ (less_is _ _ e.2) ∙ and_true (ltb (s.cores * load_in s d) (total_load s)) _ (less_is _ _ (subst (λ (x : ℕ). x < total_load s) e.0 (subst (λ (x : ℕ). length carried * get_or carried d 0 < x) e.1 l)))
 
-pub takes_none : (s : Scene) (carried : List ℕ) → IsWeighed s carried → (b d total : ℕ) → total ≡ sum carried → d < length carried → total ≤ length carried * get_or carried d 0 → may_take s b d ≡ false
+pub takes_none : (s : RoundState) (carried : List ℕ) → IsWeighed s carried → (b d total : ℕ) → total ≡ sum carried → d < length carried → total ≤ length carried * get_or carried d 0 → may_take s b d ≡ false
 takes_none s carried w b d total t h l = let e = below_is s carried w d total t h in
-    and_true (ltb d s.cores) _ (less_is _ _ e.2) ∙ and_false (ltb (s.cores * load_in s d) (total_in s)) _ (le-ltb _ _ (subst (λ (x : ℕ). total_in s ≤ x) e.0 (subst (λ (x : ℕ). x ≤ length carried * get_or carried d 0) e.1 l)))
+    and_true (ltb d s.cores) _ (less_is _ _ e.2) ∙ and_false (ltb (s.cores * load_in s d) (total_load s)) _ (le-ltb _ _ (subst (λ (x : ℕ). total_load s ≤ x) e.0 (subst (λ (x : ℕ). x ≤ length carried * get_or carried d 0) e.1 l)))
 
-pub no_offer : (s : Scene) (b d : ℕ) → may_take s b d ≡ false → None ≡ (if may_take s b d then Some (proposal s b d) else None)
+pub no_offer : (s : RoundState) (b d : ℕ) → may_take s b d ≡ false → None ≡ (if may_take s b d then Some (proposal s b d) else None)
 no_offer s b d h = sym (ap (λ (t : Bool). if t then Some (proposal s b d) else None) h)
 
-pub offered : (s : Scene) (b d : ℕ) (p : Proposal) → may_take s b d ≡ true → p ≡ proposal s b d → Some p ≡ (if may_take s b d then Some (proposal s b d) else None)
+pub offered : (s : RoundState) (b d : ℕ) (p : Proposal) → may_take s b d ≡ true → p ≡ proposal s b d → Some p ≡ (if may_take s b d then Some (proposal s b d) else None)
 offered s b d p h e = ap Some e ∙ sym (ap (λ (t : Bool). if t then Some (proposal s b d) else None) h)
 
 -- how far apart the two cores are
-pub apart_is : (s : Scene) (carried : List ℕ) → IsWeighed s carried → (b d : ℕ) → b < length s.owners → d < length carried → get_or carried (get_or s.owners b 0) 0 - get_or carried d 0 ≡ load_in s (get_or s.owners b 0) - load_in s d
+pub apart_is : (s : RoundState) (carried : List ℕ) → IsWeighed s carried → (b d : ℕ) → b < length s.owners → d < length carried → get_or carried (get_or s.owners b 0) 0 - get_or carried d 0 ≡ load_in s (get_or s.owners b 0) - load_in s d
 apart_is s carried w b d h g = ap (λ (x : ℕ). x - get_or carried d 0) (carried_at s carried w _ (owner_at s carried w b h))
     ∙ ap (λ (x : ℕ). load_in s (get_or s.owners b 0) - x) (carried_at s carried w d (subst (λ (n : ℕ). d < n) (length_is s carried w) g))

@@ -5,7 +5,7 @@ use Rattle.std.proofs.lemmas.Bool.{cases_lt, cases_eq}
 use Rattle.indirection.specs.Tries.{upto}
 use Rattle.indirection.proofs.Upto.{length-upto}
 use Rattle.balancer.specs.Imbalance.{imbalance, owned, load, core_loads}
-use Rattle.balancer.specs.Greedy.{Scene, IsAllowed, gain, load_in}
+use Rattle.balancer.specs.Greedy.{RoundState, IsAllowed, gain, load_in}
 use Rattle.balancer.proofs.Sums.{imbalance-falls}
 
 -- the answer for a number below a bound
@@ -31,7 +31,7 @@ owned-set e d (o ∷ os) (w ∷ ws) zero h = omega arith
 owned-set e d (o ∷ os) (w ∷ ws) (suc b) h = let r = owned-set e d os ws b (omega arith) in omega arith
 
 -- the loads of the cores after a move: the bucket's load went from its owner to the other core
-pub core_loads-moved : (s : Scene) (b d : ℕ) → IsAllowed s b d → core_loads s.cores s.loads (set s.owners b d)
+pub core_loads-moved : (s : RoundState) (b d : ℕ) → IsAllowed s b d → core_loads s.cores s.loads (set s.owners b d)
     ≡ set (set (core_loads s.cores s.loads s.owners) (get_or s.owners b 0) (load_in s (get_or s.owners b 0) - get_or s.loads.bucket b 0)) d (load_in s d + get_or s.loads.bucket b 0)
 core_loads-moved s b d a = same where
   c : ℕ
@@ -92,7 +92,7 @@ core_loads-moved s b d a = same where
       get_or_default after k z 0 h ∙ (value k g ∙ sym (get_or_default moved k z 0 (subst (λ (x : ℕ). k < x) (sym (length-set (set ls c left) d (y + w) ∙ (length-set ls c left ∙ long))) g))))
 
 -- the imbalance falls by twice the square of N times the gain, where the bucket's owner becomes d
-pub imbalance-allowed : (s : Scene) (b d : ℕ) → IsAllowed s b d → imbalance (core_loads s.cores s.loads s.owners) ≡ imbalance (core_loads s.cores s.loads (set s.owners b d)) + 2 * (s.cores * s.cores) * gain s b d
+pub imbalance-allowed : (s : RoundState) (b d : ℕ) → IsAllowed s b d → imbalance (core_loads s.cores s.loads s.owners) ≡ imbalance (core_loads s.cores s.loads (set s.owners b d)) + 2 * (s.cores * s.cores) * gain s b d
 imbalance-allowed s b d a =
     subst (λ (x : ℕ). imbalance ls ≡ imbalance after + 2 * (x * x) * gain s b d) long
     (subst (λ (z : List ℕ). imbalance ls ≡ imbalance z + 2 * (length ls * length ls) * gain s b d) (sym same)

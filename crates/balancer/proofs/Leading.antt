@@ -4,8 +4,8 @@ use Rattle.std.proofs.Math.Nat.{mul-le-mul_left}
 use Rattle.std.proofs.lemmas.Bool.{cases_Bool, cases_eq, cases_lt, lt-ltb, le-ltb}
 use Rattle.std.proofs.lemmas.Bool.Decides.{nat_tests}
 use Rattle.indirection.specs.declared.proposal.Proposal.{Proposal}
-use Rattle.balancer.specs.Greedy.{Scene, IsAllowed, allowed, gain, proposal, load_in, total_in, choices, greatest, IsBest}
-use Rattle.balancer.specs.Leading.{is_ahead, leading, is_beyond, Leads, IsLeast}
+use Rattle.balancer.specs.Greedy.{RoundState, IsAllowed, allowed, gain, proposal, load_in, total_load, choices, greatest, IsBest}
+use Rattle.balancer.specs.Leading.{is_ahead, leading, is_beyond, IsLeading, IsLeast}
 use Rattle.balancer.specs.Ranking.{IsFree, IsFirstFree, IsLastFree}
 use Rattle.balancer.specs.Standing.{IsWeighed}
 use Rattle.balancer.proofs.Best.{is_allowed, none_allowed}
@@ -30,24 +30,24 @@ behind g b pg pb qg qb h k = ⊎_elim
     (λ (l : g < pg). ⊎_elim (λ (m : pg < qg). inl (omega arith)) (λ (m : (pg ≡ qg) × (qb ≤ pb)). let x = m.0 in inl (omega arith)) k)
     (λ (l : (g ≡ pg) × (pb ≤ b)). let x = l.0 in let y = l.1 in ⊎_elim (λ (m : pg < qg). inl (omega arith)) (λ (m : (pg ≡ qg) × (qb ≤ pb)). let u = m.0 in let v = m.1 in inr (omega arith, omega arith)) k) h
 
-pub Leads-leading : (s : Scene) (d : ℕ) (Q R : ℕ → Type 0) (o r : Option Proposal) → Leads s d Q o → Leads s d R r → Leads s d (λ b. Q b ⊎ R b) (leading o r)
-Leads-leading s d Q R None None l m = λ b h a. ⊎_elim (λ (x : Q b). l b x a) (λ (x : R b). m b x a) h
-Leads-leading s d Q R None (Some q) l m = (m.0, m.1, λ b h a. ⊎_elim (λ (x : Q b). absurd (l b x a)) (λ (x : R b). m.2 b x a) h)
-Leads-leading s d Q R (Some p) None l m = (l.0, l.1, λ b h a. ⊎_elim (λ (x : Q b). l.2 b x a) (λ (x : R b). absurd (m b x a)) h)
-Leads-leading s d Q R (Some p) (Some q) l m = ⊎_elim
+pub IsLeading-leading : (s : RoundState) (d : ℕ) (Q R : ℕ → Type 0) (o r : Option Proposal) → IsLeading s d Q o → IsLeading s d R r → IsLeading s d (λ b. Q b ⊎ R b) (leading o r)
+IsLeading-leading s d Q R None None l m = λ b h a. ⊎_elim (λ (x : Q b). l b x a) (λ (x : R b). m b x a) h
+IsLeading-leading s d Q R None (Some q) l m = (m.0, m.1, λ b h a. ⊎_elim (λ (x : Q b). absurd (l b x a)) (λ (x : R b). m.2 b x a) h)
+IsLeading-leading s d Q R (Some p) None l m = (l.0, l.1, λ b h a. ⊎_elim (λ (x : Q b). l.2 b x a) (λ (x : R b). absurd (m b x a)) h)
+IsLeading-leading s d Q R (Some p) (Some q) l m = ⊎_elim
     (λ (t : (is_ahead p q ≡ true) × ((p.gain < q.gain) ⊎ ((p.gain ≡ q.gain) × (q.bucket < p.bucket)))).
-    subst (λ (x : Bool). Leads s d (λ b. Q b ⊎ R b) (if x then Some q else Some p)) (sym t.0)
+    subst (λ (x : Bool). IsLeading s d (λ b. Q b ⊎ R b) (if x then Some q else Some p)) (sym t.0)
     (m.0, m.1, λ b h a. ⊎_elim (λ (x : Q b). behind (gain s b d) b p.gain p.bucket q.gain q.bucket (l.2 b x a) (weaker t.1)) (λ (x : R b). m.2 b x a) h))
     (λ (t : (is_ahead p q ≡ false) × ((q.gain < p.gain) ⊎ ((q.gain ≡ p.gain) × (p.bucket ≤ q.bucket)))).
-    subst (λ (x : Bool). Leads s d (λ b. Q b ⊎ R b) (if x then Some q else Some p)) (sym t.0)
+    subst (λ (x : Bool). IsLeading s d (λ b. Q b ⊎ R b) (if x then Some q else Some p)) (sym t.0)
     (l.0, l.1, λ b h a. ⊎_elim (λ (x : Q b). l.2 b x a) (λ (x : R b). behind (gain s b d) b q.gain q.bucket p.gain p.bucket (m.2 b x a) t.1) h))
     (by_both p.gain q.gain q.bucket p.bucket) where
       weaker : (p.gain < q.gain) ⊎ ((p.gain ≡ q.gain) × (q.bucket < p.bucket)) → (p.gain < q.gain) ⊎ ((p.gain ≡ q.gain) × (q.bucket ≤ p.bucket))
       weaker h = ⊎_elim (λ (x : p.gain < q.gain). inl x) (λ (x : (p.gain ≡ q.gain) × (q.bucket < p.bucket)). let y = x.1 in inr (x.0, omega arith)) h
 
-pub Leads-where : (s : Scene) (d : ℕ) (Q R : ℕ → Type 0) (o : Option Proposal) → ((b : ℕ) → IsAllowed s b d → R b → Q b) → Leads s d Q o → Leads s d R o
-Leads-where s d Q R None f l = λ b h a. l b (f b a h) a
-Leads-where s d Q R (Some p) f l = (l.0, l.1, λ b h a. l.2 b (f b a h) a)
+pub IsLeading-where : (s : RoundState) (d : ℕ) (Q R : ℕ → Type 0) (o : Option Proposal) → ((b : ℕ) → IsAllowed s b d → R b → Q b) → IsLeading s d Q o → IsLeading s d R o
+IsLeading-where s d Q R None f l = λ b h a. l b (f b a h) a
+IsLeading-where s d Q R (Some p) f l = (l.0, l.1, λ b h a. l.2 b (f b a h) a)
 
 -- the gain falls above half of the difference, and rises below it
 
@@ -69,44 +69,44 @@ rises_below a x y h k =
 
 -- the buckets of one core, and the free one that is nearest to half of the difference
 
-abbrev load_of : Scene → ℕ → ℕ
+abbrev load_of : RoundState → ℕ → ℕ
 load_of s b = get_or s.loads.bucket b 0
 
-free : (s : Scene) (from to b : ℕ) → get_or s.owners b 0 ≡ from → IsAllowed s b to → IsFree s from b
+free : (s : RoundState) (from to b : ℕ) → get_or s.owners b 0 ≡ from → IsAllowed s b to → IsFree s from b
 free s from to b o a = record { bucket = a.bucket; owner = o; once = a.once }
 
-gain_from : (s : Scene) (from to b : ℕ) → get_or s.owners b 0 ≡ from → gain s b to ≡ load_of s b * (load_in s from - load_in s to - load_of s b)
+gain_from : (s : RoundState) (from to b : ℕ) → get_or s.owners b 0 ≡ from → gain s b to ≡ load_of s b * (load_in s from - load_in s to - load_of s b)
 gain_from s from to b o = ap (λ (x : ℕ). load_of s b * (load_in s x - load_in s to - load_of s b)) o
 
-fits_from : (s : Scene) (from to b : ℕ) → get_or s.owners b 0 ≡ from → IsAllowed s b to → load_of s b < load_in s from - load_in s to
+fits_from : (s : RoundState) (from to b : ℕ) → get_or s.owners b 0 ≡ from → IsAllowed s b to → load_of s b < load_in s from - load_in s to
 fits_from s from to b o a = subst (λ (x : ℕ). load_of s b < load_in s x - load_in s to) o a.fits
 
-same_pair : (s : Scene) (from to b f : ℕ) → get_or s.owners b 0 ≡ from → IsFree s from f → 0 < load_of s f → load_of s f < load_in s from - load_in s to → IsAllowed s b to → IsAllowed s f to
+same_pair : (s : RoundState) (from to b f : ℕ) → get_or s.owners b 0 ≡ from → IsFree s from f → 0 < load_of s f → load_of s f < load_in s from - load_in s to → IsAllowed s b to → IsAllowed s f to
 same_pair s from to b f o free some fits a = record {
   bucket = free.bucket;
   owner = subst (λ (x : ℕ). x < s.cores) (o ∙ sym free.owner) a.owner;
   core = a.core;
-  above = subst (λ (x : ℕ). total_in s < s.cores * load_in s x) (o ∙ sym free.owner) a.above;
+  above = subst (λ (x : ℕ). total_load s < s.cores * load_in s x) (o ∙ sym free.owner) a.above;
   below = a.below;
   some = some;
   fits = subst (λ (x : ℕ). load_of s f < load_in s x - load_in s to) (sym free.owner) fits;
   once = free.once;
 }
 
-chosen : (s : Scene) (from to f : ℕ) (Q : ℕ → Type 0) (o : Option Proposal) → o ≡ (if allowed s f to then Some (proposal s f to) else None)
+chosen : (s : RoundState) (from to f : ℕ) (Q : ℕ → Type 0) (o : Option Proposal) → o ≡ (if allowed s f to then Some (proposal s f to) else None)
     → ((b : ℕ) → Q b → IsAllowed s b to → IsAllowed s f to × ((gain s b to < gain s f to) ⊎ ((gain s b to ≡ gain s f to) × (f ≤ b))))
-    → Leads s to Q o
+    → IsLeading s to Q o
 chosen s from to f Q o e h = ⊎_elim
-    (λ (t : allowed s f to ≡ true). subst (Leads s to Q) (sym (e ∙ ap (λ (x : Bool). if x then Some (proposal s f to) else None) t)) (allowed_is s f to t, refl, λ b q a. (h b q a).1))
-    (λ (t : allowed s f to ≡ false). subst (Leads s to Q) (sym (e ∙ ap (λ (x : Bool). if x then Some (proposal s f to) else None) t))
+    (λ (t : allowed s f to ≡ true). subst (IsLeading s to Q) (sym (e ∙ ap (λ (x : Bool). if x then Some (proposal s f to) else None) t)) (allowed_is s f to t, refl, λ b q a. (h b q a).1))
+    (λ (t : allowed s f to ≡ false). subst (IsLeading s to Q) (sym (e ∙ ap (λ (x : Bool). if x then Some (proposal s f to) else None) t))
     (λ b q a. differ (allowed s f to) (is_allowed s f to (h b q a).0) t))
     (cases_Bool (allowed s f to)) where
       differ : (x : Bool) → x ≡ true → x ≡ false → ⊥
       differ true y z = cc
       differ false y z = cc
 
-pub above_leads : (s : Scene) (from to half f : ℕ) (o : Option Proposal) → load_in s from - load_in s to ≤ half + half → IsFirstFree s from half (Some f) → o ≡ (if allowed s f to then Some (proposal s f to) else None)
-    → Leads s to (λ b. (get_or s.owners b 0 ≡ from) × (half ≤ get_or s.loads.bucket b 0)) o
+pub above_leads : (s : RoundState) (from to half f : ℕ) (o : Option Proposal) → load_in s from - load_in s to ≤ half + half → IsFirstFree s from half (Some f) → o ≡ (if allowed s f to then Some (proposal s f to) else None)
+    → IsLeading s to (λ b. (get_or s.owners b 0 ≡ from) × (half ≤ get_or s.loads.bucket b 0)) o
 above_leads s from to half f o h first e = chosen s from to f (λ b. (get_or s.owners b 0 ≡ from) × (half ≤ load_of s b)) o e (λ b q a.
     let fits = fits_from s from to b q.0 a in let much = q.1 in let enough = first.1 in
     let gb = gain_from s from to b q.0 in let gf = gain_from s from to f first.0.owner in
@@ -121,11 +121,11 @@ above_leads s from to half f o h first e = chosen s from to f (λ b. (get_or s.o
     ))
     (first.2 b (free s from to b q.0 a) much))
 
-pub above_none : (s : Scene) (from to half : ℕ) → IsFirstFree s from half None → Leads s to (λ b. (get_or s.owners b 0 ≡ from) × (half ≤ get_or s.loads.bucket b 0)) None
+pub above_none : (s : RoundState) (from to half : ℕ) → IsFirstFree s from half None → IsLeading s to (λ b. (get_or s.owners b 0 ≡ from) × (half ≤ get_or s.loads.bucket b 0)) None
 above_none s from to half none = λ b q a. let much = q.1 in let little = none b (free s from to b q.0 a) in omega arith
 
-pub below_leads : (s : Scene) (from to half l f : ℕ) (o : Option Proposal) → half + half ≤ load_in s from - load_in s to + 1 → IsLastFree s from half (Some l) → IsFirstFree s from l (Some f) → o ≡ (if allowed s f to then Some (proposal s f to) else None)
-    → Leads s to (λ b. (get_or s.owners b 0 ≡ from) × (get_or s.loads.bucket b 0 < half)) o
+pub below_leads : (s : RoundState) (from to half l f : ℕ) (o : Option Proposal) → half + half ≤ load_in s from - load_in s to + 1 → IsLastFree s from half (Some l) → IsFirstFree s from l (Some f) → o ≡ (if allowed s f to then Some (proposal s f to) else None)
+    → IsLeading s to (λ b. (get_or s.owners b 0 ≡ from) × (get_or s.loads.bucket b 0 < half)) o
 below_leads s from to half l f o h last first e = chosen s from to f (λ b. (get_or s.owners b 0 ≡ from) × (load_of s b < half)) o e (λ b q a.
     let fits = fits_from s from to b q.0 a in let some = a.some in let low = q.1 in let under = last.1 in
     let gb = gain_from s from to b q.0 in let gf = gain_from s from to f first.0.owner in
@@ -146,31 +146,31 @@ below_leads s from to half l f o h last first e = chosen s from to f (λ b. (get
           (λ (m : (load_of s f ≡ load_of s g) × (f ≤ g)). m.0 ∙ at)
           (first.2 g last.0.1 (omega arith))
 
-pub below_none : (s : Scene) (from to half : ℕ) → IsLastFree s from half None → Leads s to (λ b. (get_or s.owners b 0 ≡ from) × (get_or s.loads.bucket b 0 < half)) None
+pub below_none : (s : RoundState) (from to half : ℕ) → IsLastFree s from half None → IsLeading s to (λ b. (get_or s.owners b 0 ≡ from) × (get_or s.loads.bucket b 0 < half)) None
 below_none s from to half none = λ b q a. let low = q.1 in let much = none b (free s from to b q.0 a) in omega arith
 
-pub not_lost : (s : Scene) (from half l : ℕ) → IsLastFree s from half (Some l) → IsFirstFree s from l None → ⊥
+pub not_lost : (s : RoundState) (from half l : ℕ) → IsLastFree s from half (Some l) → IsFirstFree s from l None → ⊥
 not_lost s from half l last none = let at = last.0.2 in let low = none last.0.0 last.0.1 in omega arith
 
 -- a core that carries no more than an even share gives no bucket away
-pub none_from : (s : Scene) (carried : List ℕ) → IsWeighed s carried → (from total : ℕ) → total ≡ sum carried → from < length carried → length carried * get_or carried from 0 ≤ total
+pub none_from : (s : RoundState) (carried : List ℕ) → IsWeighed s carried → (from total : ℕ) → total ≡ sum carried → from < length carried → length carried * get_or carried from 0 ≤ total
     → (b d : ℕ) → get_or s.owners b 0 ≡ from → ¬ (IsAllowed s b d)
 none_from s carried w from total t near h b d o a =
     let here : from < s.cores = subst (λ (n : ℕ). from < n) (length_is s carried w) near in
     let p : length carried * get_or carried from 0 ≡ s.cores * load_in s from = ap (λ (x : ℕ). x * get_or carried from 0) (length_is s carried w) ∙ ap (λ (x : ℕ). s.cores * x) (carried_at s carried w from here) in
-    let q : sum carried ≡ total_in s = ap (λ (z : List ℕ). sum z) w.carried_are in
-    let above : total_in s < s.cores * load_in s from = subst (λ (x : ℕ). total_in s < s.cores * load_in s x) o a.above in
+    let q : sum carried ≡ total_load s = ap (λ (z : List ℕ). sum z) w.carried_are in
+    let above : total_load s < s.cores * load_in s from = subst (λ (x : ℕ). total_load s < s.cores * load_in s x) o a.above in
     omega arith
 
-pub none_more : (s : Scene) (carried : List ℕ) → IsWeighed s carried → (from total to : ℕ) (o : Option Proposal) → total ≡ sum carried → from < length carried → length carried * get_or carried from 0 ≤ total
-    → Leads s to (λ b. get_or s.owners b 0 < from) o → Leads s to (λ b. get_or s.owners b 0 < from + 1) o
-none_more s carried w from total to o t near h l = Leads-where s to (λ b. get_or s.owners b 0 < from) (λ b. get_or s.owners b 0 < from + 1) o
+pub none_more : (s : RoundState) (carried : List ℕ) → IsWeighed s carried → (from total to : ℕ) (o : Option Proposal) → total ≡ sum carried → from < length carried → length carried * get_or carried from 0 ≤ total
+    → IsLeading s to (λ b. get_or s.owners b 0 < from) o → IsLeading s to (λ b. get_or s.owners b 0 < from + 1) o
+none_more s carried w from total to o t near h l = IsLeading-where s to (λ b. get_or s.owners b 0 < from) (λ b. get_or s.owners b 0 < from + 1) o
     (λ b a k. ⊎_elim (λ (m : get_or s.owners b 0 < from). m) (λ (m : from ≤ get_or s.owners b 0). absurd (none_from s carried w from total t near h b to (omega arith) a)) (cases_lt (get_or s.owners b 0) from)) l
 
-pub one_more : (s : Scene) (from to : ℕ) (o r : Option Proposal) → Leads s to (λ b. get_or s.owners b 0 < from) o → Leads s to (λ b. get_or s.owners b 0 ≡ from) r → Leads s to (λ b. get_or s.owners b 0 < from + 1) (leading o r)
-one_more s from to o r l m = Leads-where s to (λ b. (get_or s.owners b 0 < from) ⊎ (get_or s.owners b 0 ≡ from)) (λ b. get_or s.owners b 0 < from + 1) (leading o r)
+pub one_more : (s : RoundState) (from to : ℕ) (o r : Option Proposal) → IsLeading s to (λ b. get_or s.owners b 0 < from) o → IsLeading s to (λ b. get_or s.owners b 0 ≡ from) r → IsLeading s to (λ b. get_or s.owners b 0 < from + 1) (leading o r)
+one_more s from to o r l m = IsLeading-where s to (λ b. (get_or s.owners b 0 < from) ⊎ (get_or s.owners b 0 ≡ from)) (λ b. get_or s.owners b 0 < from + 1) (leading o r)
     (λ b a h. ⊎_elim (λ (k : get_or s.owners b 0 < from). inl k) (λ (k : from ≤ get_or s.owners b 0). inr (omega arith)) (cases_lt (get_or s.owners b 0) from))
-    (Leads-leading s to (λ b. get_or s.owners b 0 < from) (λ b. get_or s.owners b 0 ≡ from) o r l m)
+    (IsLeading-leading s to (λ b. get_or s.owners b 0 < from) (λ b. get_or s.owners b 0 ≡ from) o r l m)
 
 -- no load gains more than half of the difference would
 
@@ -192,9 +192,9 @@ beyond_is (Some p) apart h = (p, refl, less (apart * apart / 4) p.gain h) where
   less : (a b : ℕ) → ltb a b ≡ true → a < b
   less a b h = grind (arith, nat_tests)
 
-pub beaten : (s : Scene) (carried : List ℕ) → IsWeighed s carried → (from to apart : ℕ) (o : Option Proposal) → from < length carried → to < length carried → apart ≡ get_or carried from 0 - get_or carried to 0
-    → is_beyond o apart ≡ true → Leads s to (λ b. get_or s.owners b 0 < from) o → Leads s to (λ b. get_or s.owners b 0 < from + 1) o
-beaten s carried w from to apart o near near' is t l = subst (λ (o : Option Proposal). Leads s to (λ b. get_or s.owners b 0 < from + 1) o) (sym one.1) (kept (subst (λ (o : Option Proposal). Leads s to (λ b. get_or s.owners b 0 < from) o) one.1 l)) where
+pub beaten : (s : RoundState) (carried : List ℕ) → IsWeighed s carried → (from to apart : ℕ) (o : Option Proposal) → from < length carried → to < length carried → apart ≡ get_or carried from 0 - get_or carried to 0
+    → is_beyond o apart ≡ true → IsLeading s to (λ b. get_or s.owners b 0 < from) o → IsLeading s to (λ b. get_or s.owners b 0 < from + 1) o
+beaten s carried w from to apart o near near' is t l = subst (λ (o : Option Proposal). IsLeading s to (λ b. get_or s.owners b 0 < from + 1) o) (sym one.1) (kept (subst (λ (o : Option Proposal). IsLeading s to (λ b. get_or s.owners b 0 < from) o) one.1 l)) where
   one : (p : Proposal) × (o ≡ Some p) × (apart * apart / 4 < p.gain)
   one = beyond_is o apart t
 
@@ -207,7 +207,7 @@ beaten s carried w from to apart o near near' is t l = subst (λ (o : Option Pro
   apart_is : apart ≡ load_in s from - load_in s to
   apart_is = let f = carried_at s carried w from (subst (λ (n : ℕ). from < n) (length_is s carried w) near) in let t = carried_at s carried w to (subst (λ (n : ℕ). to < n) (length_is s carried w) near') in omega (arith, f, t, is)
 
-  kept : Leads s to (λ b. get_or s.owners b 0 < from) (Some p) → Leads s to (λ b. get_or s.owners b 0 < from + 1) (Some p)
+  kept : IsLeading s to (λ b. get_or s.owners b 0 < from) (Some p) → IsLeading s to (λ b. get_or s.owners b 0 < from + 1) (Some p)
   kept m = (
     m.0,
     m.1,
@@ -223,7 +223,7 @@ beaten s carried w from to apart o near near' is t l = subst (λ (o : Option Pro
 
 -- the lowest core that carries the least
 
-is_greatest : (s : Scene) (p : Proposal) → IsBest s p → greatest (choices s) ≡ Some p
+is_greatest : (s : RoundState) (p : Proposal) → IsBest s p → greatest (choices s) ≡ Some p
 is_greatest s p best = of (greatest (choices s)) refl where
   same : (q : Proposal) → IsBest s q → q ≡ p
   same q other =
@@ -241,7 +241,7 @@ is_greatest s p best = of (greatest (choices s)) refl where
   of None e = absurd (none_allowed s p.bucket p.to e best.allowed)
   of (Some q) e = e ∙ ap (λ (r : Proposal). Some r) (same q (best_is s q e))
 
-pub none_greatest : (s : Scene) → ((b d : ℕ) → ¬ (IsAllowed s b d)) → greatest (choices s) ≡ None
+pub none_greatest : (s : RoundState) → ((b d : ℕ) → ¬ (IsAllowed s b d)) → greatest (choices s) ≡ None
 none_greatest s h = of (greatest (choices s)) refl where
   of : (o : Option Proposal) → greatest (choices s) ≡ o → greatest (choices s) ≡ None
   of None e = e
@@ -269,7 +269,7 @@ least-first carried = record {
 }
 
 -- each bucket that may go to a core may go to the one that carries the least, and gains no less
-to_least : (s : Scene) (carried : List ℕ) → IsWeighed s carried → (d : ℕ) → IsLeast carried (length carried) d → (b c : ℕ) → IsAllowed s b c
+to_least : (s : RoundState) (carried : List ℕ) → IsWeighed s carried → (d : ℕ) → IsLeast carried (length carried) d → (b c : ℕ) → IsAllowed s b c
     → IsAllowed s b d × (gain s b c ≤ gain s b d) × (gain s b c ≡ gain s b d → d ≤ c)
 to_least s carried w d is b c a =
     let long = length_is s carried w in
@@ -289,7 +289,7 @@ to_least s carried w d is b c a =
           (cases_lt (load_in s d) (load_in s c)),
     )
 
-pub least_leads : (s : Scene) (carried : List ℕ) → IsWeighed s carried → (d : ℕ) → IsLeast carried (length carried) d → (o : Option Proposal) → Leads s d (λ b. get_or s.owners b 0 < s.cores) o → o ≡ greatest (choices s)
+pub least_leads : (s : RoundState) (carried : List ℕ) → IsWeighed s carried → (d : ℕ) → IsLeast carried (length carried) d → (o : Option Proposal) → IsLeading s d (λ b. get_or s.owners b 0 < s.cores) o → o ≡ greatest (choices s)
 least_leads s carried w d is None l = sym (none_greatest s (λ b c a. l b a.owner (to_least s carried w d is b c a).0))
 least_leads s carried w d is (Some p) l = sym (is_greatest s p (record {
   allowed = subst (λ (x : ℕ). IsAllowed s p.bucket x) (sym to) l.0;

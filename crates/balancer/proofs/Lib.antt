@@ -1,7 +1,6 @@
 pub mod AllMoves
 pub mod Best
 pub mod BucketLines
-pub mod Buffers
 pub mod Carried
 pub mod Choices
 pub mod Chosen

@@ -18,7 +18,7 @@ use Rattle.indirection.specs.Tries.{upto}
 use Rattle.indirection.proofs.Upto.{length-upto}
 use Rattle.indirection.specs.declared.proposal.Proposal.{Proposal}
 use Rattle.balancer.specs.declared.ranked.Ranked.{Ranked}
-use Rattle.balancer.specs.Greedy.{Scene}
+use Rattle.balancer.specs.Greedy.{RoundState}
 use Rattle.balancer.specs.Ranking.{ranked, all_ranked, Before, IsInOrder, is_below, IsEntry, IsRanking, IsFree, IsFirstFree, IsLastFree}
 use Rattle.balancer.proofs.Choices.{any_of}
 use Rattle.balancer.proofs.Leading.{by_both}
@@ -138,11 +138,11 @@ stands_below core load x f = ⊎_elim
     (by_both x.owner core x.load load)
 
 -- the bucket was proposed
-abbrev pub is_taken : Scene → Ranked → Bool
+abbrev pub is_taken : RoundState → Ranked → Bool
 is_taken s x = list_any (λ b. b == x.bucket) s.taken
 
 -- where a free bucket stands
-record Spot (s : Scene) (core b : ℕ) (xs : List Ranked) (d : Ranked) : Type 0 where
+record Spot (s : RoundState) (core b : ℕ) (xs : List Ranked) (d : Ranked) : Type 0 where
   at : ℕ
   inside : at < length xs
   bucket : (get_or xs at d).bucket ≡ b
@@ -150,17 +150,17 @@ record Spot (s : Scene) (core b : ℕ) (xs : List Ranked) (d : Ranked) : Type 0 
   load : (get_or xs at d).load ≡ get_or s.loads.bucket b 0
   free : is_taken s (get_or xs at d) ≡ false
 
-spot : (s : Scene) (core b : ℕ) (xs : List Ranked) (d : Ranked) → IsRanking s.loads s.owners s.taken xs → IsFree s core b → Spot s core b xs d
+spot : (s : RoundState) (core b : ℕ) (xs : List Ranked) (d : Ranked) → IsRanking s.loads s.owners s.taken xs → IsFree s core b → Spot s core b xs d
 spot s core b xs d r f =
     let i = r.every b f.bucket in let e = r.each i.0 d i.1 in
     let free = subst (λ (x : ℕ). list_any (λ y. y == x) s.taken ≡ false) (sym (i.2 d)) f.once in
     record { at = i.0; inside = i.1; bucket = i.2 d; owner = sym (e.owner free) ∙ (ap (λ (x : ℕ). get_or s.owners x 0) (i.2 d) ∙ f.owner); load = e.load ∙ ap (λ (x : ℕ). get_or s.loads.bucket x 0) (i.2 d); free = free }
 
-entry_free : (s : Scene) (core : ℕ) (x : Ranked) → IsEntry s.loads s.owners s.taken x → is_taken s x ≡ false → x.owner ≡ core → IsFree s core x.bucket
+entry_free : (s : RoundState) (core : ℕ) (x : Ranked) → IsEntry s.loads s.owners s.taken x → is_taken s x ≡ false → x.owner ≡ core → IsFree s core x.bucket
 entry_free s core x e f o = record { bucket = e.bucket; owner = e.owner f ∙ o; once = f }
 
 -- a free bucket with at least the load stands behind the place, and one with less below it
-at_behind : (s : Scene) (core load b place : ℕ) (xs : List Ranked) (d : Ranked) → IsPlace core load xs place → (p : Spot s core b xs d) → load ≤ get_or s.loads.bucket b 0 → place ≤ p.at
+at_behind : (s : RoundState) (core load b place : ℕ) (xs : List Ranked) (d : Ranked) → IsPlace core load xs place → (p : Spot s core b xs d) → load ≤ get_or s.loads.bucket b 0 → place ≤ p.at
 at_behind s core load b place xs d is p h = ⊎_elim
     (λ (l : p.at < place). let o = p.owner in let w = p.load in absurd (⊎_elim
     (λ (x : (get_or xs p.at d).owner < core). omega arith)
@@ -168,7 +168,7 @@ at_behind s core load b place xs d is p h = ⊎_elim
     (stands_below core load (get_or xs p.at d) (is.below p.at d l))))
     (λ (l : place ≤ p.at). l) (cases_lt p.at place)
 
-at_below : (s : Scene) (core load b place : ℕ) (xs : List Ranked) (d : Ranked) → IsPlace core load xs place → (p : Spot s core b xs d) → get_or s.loads.bucket b 0 < load → p.at < place
+at_below : (s : RoundState) (core load b place : ℕ) (xs : List Ranked) (d : Ranked) → IsPlace core load xs place → (p : Spot s core b xs d) → get_or s.loads.bucket b 0 < load → p.at < place
 at_below s core load b place xs d is p h = ⊎_elim
     (λ (l : p.at < place). l)
     (λ (l : place ≤ p.at). let o = p.owner in let w = p.load in absurd (⊎_elim
@@ -188,7 +188,7 @@ tested ps xs j k e d t inside same h =
 
 -- upwards
 
-pub first_none : (s : Scene) (core load place : ℕ) (xs : List Ranked) (d : Ranked) → IsRanking s.loads s.owners s.taken xs → IsPlace core load xs place
+pub first_none : (s : RoundState) (core load place : ℕ) (xs : List Ranked) (d : Ranked) → IsRanking s.loads s.owners s.taken xs → IsPlace core load xs place
     → ((k : ℕ) → place ≤ k → k < length xs → is_taken s (get_or xs k d) ≡ true) → IsFirstFree s core load None
 first_none s core load place xs d r is skipped b f = ⊎_elim
     (λ (l : get_or s.loads.bucket b 0 < load). l)
@@ -196,7 +196,7 @@ first_none s core load place xs d r is skipped b f = ⊎_elim
     absurd (differ (is_taken s (get_or xs p.at d)) (skipped p.at (at_behind s core load b place xs d is p l) p.inside) p.free))
     (cases_lt (get_or s.loads.bucket b 0) load)
 
-module _ (s : Scene) (core load place j : ℕ) (xs : List Ranked) (d : Ranked) (r : IsRanking s.loads s.owners s.taken xs) (is : IsPlace core load xs place)
+module _ (s : RoundState) (core load place j : ℕ) (xs : List Ranked) (d : Ranked) (r : IsRanking s.loads s.owners s.taken xs) (is : IsPlace core load xs place)
     (from : place ≤ j) (inside : j < length xs) (free : is_taken s (get_or xs j d) ≡ false) (skipped : (k : ℕ) → place ≤ k → k < j → is_taken s (get_or xs k d) ≡ true) where
   reached : (b : ℕ) → (p : Spot s core b xs d) → load ≤ get_or s.loads.bucket b 0 → j ≤ p.at
   reached b p h = ⊎_elim
@@ -238,7 +238,7 @@ module _ (s : Scene) (core load place j : ℕ) (xs : List Ranked) (d : Ranked) (
 
 -- downwards
 
-pub last_none : (s : Scene) (core load place : ℕ) (xs : List Ranked) (d : Ranked) → IsRanking s.loads s.owners s.taken xs → IsPlace core load xs place
+pub last_none : (s : RoundState) (core load place : ℕ) (xs : List Ranked) (d : Ranked) → IsRanking s.loads s.owners s.taken xs → IsPlace core load xs place
     → ((k : ℕ) → k < place → is_taken s (get_or xs k d) ≡ true) → IsLastFree s core load None
 last_none s core load place xs d r is skipped b f = ⊎_elim
     (λ (l : get_or s.loads.bucket b 0 < load). let p = spot s core b xs d r f in
@@ -246,7 +246,7 @@ last_none s core load place xs d r is skipped b f = ⊎_elim
     (λ (l : load ≤ get_or s.loads.bucket b 0). l)
     (cases_lt (get_or s.loads.bucket b 0) load)
 
-module _ (s : Scene) (core load place j : ℕ) (xs : List Ranked) (d : Ranked) (r : IsRanking s.loads s.owners s.taken xs) (is : IsPlace core load xs place)
+module _ (s : RoundState) (core load place j : ℕ) (xs : List Ranked) (d : Ranked) (r : IsRanking s.loads s.owners s.taken xs) (is : IsPlace core load xs place)
     (below : j < place) (inside : j < length xs) (free : is_taken s (get_or xs j d) ≡ false) (skipped : (k : ℕ) → j < k → k < place → is_taken s (get_or xs k d) ≡ true) where
   lowered : (b : ℕ) → (p : Spot s core b xs d) → get_or s.loads.bucket b 0 < load → p.at ≤ j
   lowered b p h = ⊎_elim

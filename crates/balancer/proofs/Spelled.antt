@@ -6,7 +6,7 @@ use Rattle.std.proofs.Math.Nat.{pow-le-pow_right, pow-suc}
 use Rattle.std.proofs.lemmas.Bool.Decides.{nat_tests}
 use Rattle.std.proofs.lemmas.List.Sums.{fold_more}
 use Rattle.balancer.specs.Lines.{parts}
-use Rattle.balancer.specs.Numbers.{is_digit, value_of, number_of, numbers_of, both}
+use Rattle.balancer.specs.Numbers.{is_digit, digits_value, number_of, numbers_of, both}
 
 -- digits
 
@@ -27,7 +27,7 @@ digit_at (d ∷ ds) (suc i) h a = digit_at ds i (omega arith) (rest (is_digit d)
   rest true y g = g
   rest false y g = absurd (cc)
 
-pub value-more : (ds : List ℕ) (i : ℕ) → i < length ds → value_of (take (i + 1) ds) ≡ value_of (take i ds) * 10 + (get_or ds i 0 - 48)
+pub value-more : (ds : List ℕ) (i : ℕ) → i < length ds → digits_value (take (i + 1) ds) ≡ digits_value (take i ds) * 10 + (get_or ds i 0 - 48)
 value-more ds i h = fold_more (λ n digit. n * 10 + (digit - 48)) 0 ds i 0 h
 
 pub value-small : (i v d : ℕ) → i < 13 → v < 10 ^ i → d ≤ 57 → (v * 10 + (d - 48) < 10 ^ (i + 1)) × (v * 10 + (d - 48) < 2 ^ 64)

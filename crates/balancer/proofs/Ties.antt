@@ -7,7 +7,7 @@ use Rattle.std.proofs.lemmas.List.{map-append, append-nil}
 use Rattle.std.proofs.lemmas.List.Elements.{filter-append}
 use Rattle.indirection.specs.declared.proposal.Proposal.{Proposal}
 use Rattle.indirection.specs.Tries.{upto}
-use Rattle.balancer.specs.Greedy.{Scene, IsAllowed, allowed, proposal, choices, choices_of, greatest, ahead, greedy, led, moved, IsBest, AreBest}
+use Rattle.balancer.specs.Greedy.{RoundState, IsAllowed, allowed, proposal, choices, choices_of, greatest, ahead, greedy, led, moved, IsBest, AreBest}
 use Rattle.balancer.proofs.Best.{Has, has_choice, best_gain}
 use Rattle.balancer.proofs.Chosen.{allowed_is, chosen_is}
 
@@ -40,10 +40,10 @@ Sorted-append P Q f (p ∷ ps) qs a b s t = (AllOf-append (Less p) ps qs s.0 (Al
 
 -- the choices of a bucket among the first n cores
 
-abbrev among : Scene → ℕ → List ℕ → List Proposal
+abbrev among : RoundState → ℕ → List ℕ → List Proposal
 among s b ds = map (λ d. proposal s b d) (filter (λ d. allowed s b d) ds)
 
-among-push : (s : Scene) (b n : ℕ) → among s b (upto (suc n)) ≡ among s b (upto n) ++ among s b (n ∷ [])
+among-push : (s : RoundState) (b n : ℕ) → among s b (upto (suc n)) ≡ among s b (upto n) ++ among s b (n ∷ [])
 among-push s b n = ap (map (λ d. proposal s b d)) (filter-append (λ d. allowed s b d) (upto n) (n ∷ [])) ∙ map-append (λ d. proposal s b d) (filter (λ d. allowed s b d) (upto n)) (filter (λ d. allowed s b d) (n ∷ []))
 
 At : ℕ → ℕ → Proposal → Type 0
@@ -52,7 +52,7 @@ At b n p = (p.bucket ≡ b) × (p.to < n)
 Exactly : ℕ → ℕ → Proposal → Type 0
 Exactly b n p = (p.bucket ≡ b) × (p.to ≡ n)
 
-one_among : (s : Scene) (b n : ℕ) → AllOf (Exactly b n) (among s b (n ∷ [])) × Sorted (among s b (n ∷ []))
+one_among : (s : RoundState) (b n : ℕ) → AllOf (Exactly b n) (among s b (n ∷ [])) × Sorted (among s b (n ∷ []))
 unfolding AllOf Sorted Exactly
 one_among s b n = ⊎_elim
     (λ (t : allowed s b n ≡ true). subst (λ (t : Bool). AllOf (Exactly b n) (map (λ d. proposal s b d) (cond t (n ∷ []) [])) × Sorted (map (λ d. proposal s b d) (cond t (n ∷ []) []))) (sym t) (((refl, refl), tt), (tt, tt)))
@@ -71,7 +71,7 @@ at_less : (b n : ℕ) (p q : Proposal) → At b n p → Exactly b n q → Less p
 unfolding At Exactly Less
 at_less b n p q a e = let h = a.1 in let k = e.1 in inr (a.0 ∙ sym e.0, omega arith)
 
-of_bucket : (s : Scene) (b n : ℕ) → AllOf (At b n) (among s b (upto n)) × Sorted (among s b (upto n))
+of_bucket : (s : RoundState) (b n : ℕ) → AllOf (At b n) (among s b (upto n)) × Sorted (among s b (upto n))
 unfolding AllOf Sorted
 of_bucket s b zero = (tt, tt)
 of_bucket s b (suc n) = let r = of_bucket s b n in let o = one_among s b n in
@@ -108,7 +108,7 @@ under_less : (n : ℕ) (p q : Proposal) → Under n p → Is n q → Less p q
 unfolding Under Is Less
 under_less n p q h k = inl (omega arith)
 
-of_buckets : (s : Scene) (n : ℕ) → AllOf (Under n) (flat_map (choices_of s) (upto n)) × Sorted (flat_map (choices_of s) (upto n))
+of_buckets : (s : RoundState) (n : ℕ) → AllOf (Under n) (flat_map (choices_of s) (upto n)) × Sorted (flat_map (choices_of s) (upto n))
 unfolding AllOf Sorted
 of_buckets s zero = (tt, tt)
 of_buckets s (suc n) = let r = of_buckets s n in let o = of_bucket s n s.cores in let is = AllOf-map (At n s.cores) (Is n) (at_is n s.cores) (choices_of s n) o.0 in
@@ -140,7 +140,7 @@ first_of_greatest (p ∷ ps) q r s e h g = ahead_first (λ k m. first_of_greates
       (cases_Bool (nat_le x.gain p.gain))
 
 -- the proposal that is made is allowed, gains the most, and is the first that gains so
-pub best_is : (s : Scene) (p : Proposal) → greatest (choices s) ≡ Some p → IsBest s p
+pub best_is : (s : RoundState) (p : Proposal) → greatest (choices s) ≡ Some p → IsBest s p
 unfolding Less
 best_is s p e = record {
   allowed = subst (λ (q : Proposal). IsAllowed s q.bucket q.to) (sym c.3) (allowed_is s c.0 c.1 c.2);
@@ -154,10 +154,10 @@ best_is s p e = record {
   c : (b d : ℕ) × (allowed s b d ≡ true) × (p ≡ proposal s b d)
   c = chosen_is s p e
 
-best_led : (limit : ℕ) (s : Scene) (o : Option Proposal) → greatest (choices s) ≡ o → ((t : Scene) → AreBest t (greedy limit t)) → AreBest s (led (greedy limit) s o)
+best_led : (limit : ℕ) (s : RoundState) (o : Option Proposal) → greatest (choices s) ≡ o → ((t : RoundState) → AreBest t (greedy limit t)) → AreBest s (led (greedy limit) s o)
 best_led limit s None e rest = tt
 best_led limit s (Some p) e rest = (best_is s p e, rest (moved s p))
 
-pub greedy_best : (limit : ℕ) (s : Scene) → AreBest s (greedy limit s)
+pub greedy_best : (limit : ℕ) (s : RoundState) → AreBest s (greedy limit s)
 greedy_best zero s = tt
 greedy_best (suc limit) s = best_led limit s (greatest (choices s)) refl (greedy_best limit)

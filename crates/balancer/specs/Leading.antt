@@ -1,7 +1,7 @@
 -- The best of some pairs of a bucket and one core.
 use Rattle.std.specs.Prelude.{ℕ, ◌*◌, ◌/◌, ◌<◌, ◌≤◌, ◌≡◌, ◌⊎◌, List, slice_index, if◌then◌else◌, ◌==◌, nat_lt, Bool, false, ◌&&◌, ◌||◌, Option, Some, None}
 use Rattle.indirection.specs.declared.proposal.Proposal.{Proposal}
-use Rattle.balancer.specs.Greedy.{Scene, IsAllowed, gain, proposal}
+use Rattle.balancer.specs.Greedy.{RoundState, IsAllowed, gain, proposal}
 
 -- as a test: q gains more than p, or as much with a lower bucket
 abbrev pub is_ahead : Proposal → Proposal → Bool
@@ -19,9 +19,9 @@ is_beyond None apart = false
 is_beyond (Some p) apart = nat_lt (apart * apart / 4) p.gain
 
 -- the proposal is an allowed pair with core d; of the pairs of such a bucket with d, no allowed one gains more, or as much with a lower bucket
-abbrev pub Leads : Scene → ℕ → (ℕ → Type 0) → Option Proposal → Type 0
-Leads s d Q None = (b : ℕ) → Q b → ¬ (IsAllowed s b d)
-Leads s d Q (Some p) =
+abbrev pub IsLeading : RoundState → ℕ → (ℕ → Type 0) → Option Proposal → Type 0
+IsLeading s d Q None = (b : ℕ) → Q b → ¬ (IsAllowed s b d)
+IsLeading s d Q (Some p) =
     IsAllowed s p.bucket d × (p ≡ proposal s p.bucket d)
     × ((b : ℕ) → Q b → IsAllowed s b d → (gain s b d < p.gain) ⊎ ((gain s b d ≡ p.gain) × (p.bucket ≤ b)))
 

@@ -1,3 +1,6 @@
+-- Read Imbalance, Greedy, Moves, Policies and BalancerView, and `AreLoads` of Standing; for the plan Lines,
+-- Numbers, PlanForm, PlanText, PlanAnswer and PlanLines. Afterwards says what `propose` leaves. Better,
+-- Leading, Ranking, NextLine, PlanReading and PlanRead serve proofs of bodies alone.
 pub mod Afterwards
 pub mod BalancerView
 pub mod Better

@@ -1,7 +1,7 @@
 -- The numbers of a line.
 use Rattle.std.specs.Prelude.{ℕ, ◌+◌, ◌-◌, ◌*◌, List, [], ◌∷◌, length, drop, fold, if◌then◌else◌, ◌==◌, nat_eq, nat_le, Bool, true, false, ◌&&◌, ◌≡◌, Option, Some, None}
 use Rattle.std.specs.List.{list_all, starts_with}
-use Rattle.balancer.specs.declared.number.TheConstants.{MOST_DIGITS, LONGEST_LINE}
+use Rattle.balancer.specs.declared.number.TheConstants.{PLAN_DIGITS, LONGEST_LINE}
 use Rattle.balancer.specs.declared.place.TheConstants.{SPACE}
 use Rattle.balancer.specs.Lines.{parts}
 
@@ -10,12 +10,12 @@ abbrev pub is_digit : ℕ → Bool
 is_digit x = nat_le 48 x && nat_le x 57
 
 -- the number that decimal digits spell
-abbrev pub value_of : List ℕ → ℕ
-value_of digits = fold (λ n digit. n * 10 + (digit - 48)) 0 digits
+abbrev pub digits_value : List ℕ → ℕ
+digits_value digits = fold (λ n digit. n * 10 + (digit - 48)) 0 digits
 
 -- the number of a part of 1 to 13 digits
 abbrev pub number_of : List ℕ → Option ℕ
-number_of part = if nat_le 1 (length part) && (nat_le (length part) MOST_DIGITS && list_all is_digit part) then Some (value_of part) else None
+number_of part = if nat_le 1 (length part) && (nat_le (length part) PLAN_DIGITS && list_all is_digit part) then Some (digits_value part) else None
 
 -- a number and the numbers behind it, where there are both
 abbrev pub both : Option ℕ → Option (List ℕ) → Option (List ℕ)

@@ -4,7 +4,7 @@ use Rattle.std.specs.List.{list_any}
 use Rattle.indirection.specs.Views.{LoadsView}
 use Rattle.indirection.specs.Tries.{upto}
 use Rattle.balancer.specs.declared.ranked.Ranked.{Ranked}
-use Rattle.balancer.specs.Greedy.{Scene}
+use Rattle.balancer.specs.Greedy.{RoundState}
 
 -- a bucket as it is ranked
 abbrev pub ranked : LoadsView → List ℕ → ℕ → Ranked
@@ -39,13 +39,13 @@ pub record IsRanking (loads : LoadsView) (owners taken : List ℕ) (xs : List Ra
   pub order : IsInOrder xs
 
 -- the core's, and not proposed yet
-pub record IsFree (s : Scene) (core b : ℕ) : Type 0 where
+pub record IsFree (s : RoundState) (core b : ℕ) : Type 0 where
   pub bucket : b < length s.owners
   pub owner : slice_index s.owners b ≡ core
   pub once : list_any (λ x. x == b) s.taken ≡ false
 
 -- of the core's free buckets with at least this load, the lowest of the least load
-abbrev pub IsFirstFree : Scene → ℕ → ℕ → Option ℕ → Type 0
+abbrev pub IsFirstFree : RoundState → ℕ → ℕ → Option ℕ → Type 0
 IsFirstFree s core load None = (b : ℕ) → IsFree s core b → slice_index s.loads.bucket b < load
 IsFirstFree s core load (Some f) =
     IsFree s core f × (load ≤ slice_index s.loads.bucket f)
@@ -53,7 +53,7 @@ IsFirstFree s core load (Some f) =
     → (slice_index s.loads.bucket f < slice_index s.loads.bucket b) ⊎ ((slice_index s.loads.bucket f ≡ slice_index s.loads.bucket b) × (f ≤ b)))
 
 -- of the loads of the core's free buckets that are below this one, the greatest
-abbrev pub IsLastFree : Scene → ℕ → ℕ → Option ℕ → Type 0
+abbrev pub IsLastFree : RoundState → ℕ → ℕ → Option ℕ → Type 0
 IsLastFree s core load None = (b : ℕ) → IsFree s core b → load ≤ slice_index s.loads.bucket b
 IsLastFree s core load (Some l) =
     ((f : ℕ) × IsFree s core f × (slice_index s.loads.bucket f ≡ l)) × (l < load)

@@ -3,7 +3,7 @@ ghost use Rattle.std.specs.Prelude.{◌≡◌, ◌<◌, if◌then◌else◌, ◌
 ghost use Rattle.std.specs.List.{list_any};
 ghost use Rattle.balancer.specs.Better.{better};
 ghost use Rattle.balancer.specs.Greedy.{may_leave, may_take, proposal, choices_of, choices, greatest};
-ghost use Rattle.balancer.specs.Standing.{scene_at, Stands};
+ghost use Rattle.balancer.specs.Standing.{round_state_at, Stands};
 
 use crate::standing::Standing;
 use crate::weigh::total;
@@ -32,7 +32,7 @@ pub fn may_leave(s: &Standing<'_>, total: u64, bucket: u16) -> bool
     requires stands { Stands s.now }
     requires total { total ≡ sum s.now.carried.now }
     requires bucket { bucket < length s.now.owners.now }
-    ensures { result ≡ may_leave (scene_at s.now) bucket }
+    ensures { result ≡ may_leave (round_state_at s.now) bucket }
 {
     let owner = s.owners[bucket as usize];
     if s.carried.len() as u64 * s.carried[owner as usize] <= total {
@@ -50,7 +50,7 @@ pub fn offer(s: &Standing<'_>, total: u64, bucket: u16, to: u8) -> Option<Propos
     requires total { total ≡ sum s.now.carried.now }
     requires bucket { bucket < length s.now.owners.now }
     requires to { to < length s.now.carried.now }
-    ensures { result ≡ (if may_take (scene_at s.now) bucket to then Some (proposal (scene_at s.now) bucket to) else None) }
+    ensures { result ≡ (if may_take (round_state_at s.now) bucket to then Some (proposal (round_state_at s.now) bucket to) else None) }
 {
     let from = s.owners[bucket as usize];
     let load = s.loads.bucket()[bucket as usize];
@@ -76,7 +76,7 @@ fn best_of(s: &Standing<'_>, total: u64, bucket: u16) -> Option<Proposal>
     requires stands { Stands s.now }
     requires total { total ≡ sum s.now.carried.now }
     requires bucket { bucket < length s.now.owners.now }
-    ensures { result ≡ greatest (choices_of (scene_at s.now) bucket) }
+    ensures { result ≡ greatest (choices_of (round_state_at s.now) bucket) }
 {
     if !may_leave(s, total, bucket) {
         return None;
@@ -91,7 +91,7 @@ fn best_of(s: &Standing<'_>, total: u64, bucket: u16) -> Option<Proposal>
 /// The best proposal of all pairs.
 pub fn best(s: &Standing<'_>) -> Option<Proposal>
     requires { Stands s.now }
-    ensures { result ≡ greatest (choices (scene_at s.now)) }
+    ensures { result ≡ greatest (choices (round_state_at s.now)) }
 {
     let total = total(s.carried);
     let mut best = None;

@@ -1,7 +1,7 @@
 // Buckets that were not proposed yet, found in the ranking by their load.
 ghost use Rattle.std.specs.Prelude.{◌≡◌, length};
 ghost use Rattle.balancer.specs.Ranking.{IsRanking, IsFirstFree, IsLastFree};
-ghost use Rattle.balancer.specs.Standing.{scene_at};
+ghost use Rattle.balancer.specs.Standing.{round_state_at};
 
 use crate::choice::is_proposed;
 use crate::ranked::Ranked;
@@ -11,8 +11,8 @@ use crate::standing::Standing;
 /// Of the core's buckets that were not proposed yet and have at least this load, the lowest of
 /// the least load.
 pub fn first_free(s: &Standing<'_>, ranking: &[Ranked], core: u8, load: u64) -> Option<u16>
-    requires ranking { IsRanking s.now.loads.now s.now.owners.now (scene_at s.now).taken ranking.now }
-    ensures { IsFirstFree (scene_at s.now) core load result }
+    requires ranking { IsRanking s.now.loads.now s.now.owners.now (round_state_at s.now).taken ranking.now }
+    ensures { IsFirstFree (round_state_at s.now) core load result }
 {
     let place = place_of(ranking, core, load);
     for rank in place..ranking.len() {
@@ -29,8 +29,8 @@ pub fn first_free(s: &Standing<'_>, ranking: &[Ranked], core: u8, load: u64) -> 
 
 /// The greatest load, below this one, of the core's buckets that were not proposed yet.
 pub fn last_free(s: &Standing<'_>, ranking: &[Ranked], core: u8, load: u64) -> Option<u64>
-    requires ranking { IsRanking s.now.loads.now s.now.owners.now (scene_at s.now).taken ranking.now }
-    ensures { IsLastFree (scene_at s.now) core load result }
+    requires ranking { IsRanking s.now.loads.now s.now.owners.now (round_state_at s.now).taken ranking.now }
+    ensures { IsLastFree (round_state_at s.now) core load result }
 {
     let place = place_of(ranking, core, load);
     for passed in 0..place {

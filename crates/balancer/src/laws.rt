@@ -2,7 +2,7 @@
 ghost use Rattle.std.specs.Borrow.{sem};
 ghost use Rattle.std.specs.Prelude.{◌≡◌, ◌≤◌, ◌↔◌, ◌⊎◌, ℕ, List, length};
 ghost use Rattle.balancer.specs.Afterwards.{StaysMade};
-ghost use Rattle.balancer.specs.Greedy.{Scene, IsAllowed, AreBest, choices, greatest, greedy, greedy_round, opening, Lowers};
+ghost use Rattle.balancer.specs.Greedy.{RoundState, IsAllowed, AreBest, choices, greatest, greedy, greedy_round, opening, Lowers};
 ghost use Rattle.balancer.specs.Moves.{AreMoves};
 ghost use Rattle.balancer.specs.PlanForm.{Instance, instance_of};
 ghost use Rattle.balancer.specs.PlanLines.{HasLines};
@@ -16,9 +16,9 @@ use indirection::{Loads, Proposal, Table};
 /// its gain, which is at least 1. No allowed pair gains more or comes before it with the same
 /// gain, and a round ends early only where no pair is allowed.
 pub fn rounds_lower()
-    ensures lowers { (limit : ℕ) (s : Scene) → Lowers s (greedy limit s) }
-    ensures best { (limit : ℕ) (s : Scene) → AreBest s (greedy limit s) }
-    ensures none { (s : Scene) (b d : ℕ) → greatest (choices s) ≡ None → IsAllowed s b d → ⊥ }
+    ensures lowers { (limit : ℕ) (s : RoundState) → Lowers s (greedy limit s) }
+    ensures best { (limit : ℕ) (s : RoundState) → AreBest s (greedy limit s) }
+    ensures none { (s : RoundState) (b d : ℕ) → greatest (choices s) ≡ None → IsAllowed s b d → ⊥ }
 {}
 
 /// A plan text spells an instance exactly where its lines do, each by its form, and each text

@@ -12,6 +12,10 @@
 //! [`plan_text`] reads one instance and writes its round. It is proved against the instance that
 //! the lines of the whole text spell, or the first bad line among them (`specs/PlanForm.antt`);
 //! [`plans_have_lines`] says the same line by line.
+//!
+//! Read `specs/Imbalance.antt` and `specs/Greedy.antt`, then `balancer.rt`, `policy.rt` and
+//! `laws.rt`; for the plan `specs/PlanForm.antt`, `specs/PlanText.antt` and
+//! `specs/PlanAnswer.antt`, then `plan.rt`. The other files search for proposals and read lines.
 #![tactic(auto)]
 
 mod balancer;

@@ -2,7 +2,7 @@
 ghost use Rattle.std.specs.Prelude.{◌≡◌, ◌^◌};
 
 use crate::limits::FIRST_BUCKET_LINE;
-use crate::number::{LONGEST_LINE, MOST_DIGITS};
+use crate::number::{LONGEST_LINE, PLAN_DIGITS};
 use crate::place::{LINE_FEED, SPACE};
 use crate::{MOST_LOAD, MOST_PROPOSALS};
 
@@ -18,6 +18,6 @@ pub fn plan_texts_are_stated()
     ensures line { LONGEST_LINE ≡ 2_000 }
     ensures line_feed { LINE_FEED ≡ 0x0a }
     ensures space { SPACE ≡ 0x20 }
-    ensures digits { MOST_DIGITS ≡ 13 }
+    ensures digits { PLAN_DIGITS ≡ 13 }
     ensures first_bucket { FIRST_BUCKET_LINE ≡ 4 }
 {}

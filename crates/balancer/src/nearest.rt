@@ -1,9 +1,9 @@
 // The next proposal of a round, by search among the ranked buckets.
 ghost use Rattle.std.specs.Prelude.{◌≡◌, ◌<◌, ◌≤◌, ◌+◌, ◌-◌, ℕ, if◌then◌else◌, length, sum, slice_index, Some, None};
 ghost use Rattle.balancer.specs.Greedy.{allowed, proposal, choices, greatest};
-ghost use Rattle.balancer.specs.Leading.{leading, is_beyond, Leads, IsLeast};
+ghost use Rattle.balancer.specs.Leading.{leading, is_beyond, IsLeading, IsLeast};
 ghost use Rattle.balancer.specs.Ranking.{IsRanking};
-ghost use Rattle.balancer.specs.Standing.{scene_at, Stands};
+ghost use Rattle.balancer.specs.Standing.{round_state_at, Stands};
 
 use crate::choice::{may_leave, offer};
 use crate::free::{first_free, last_free};
@@ -32,7 +32,7 @@ fn choice(s: &Standing<'_>, total: u64, bucket: u16, to: u8) -> Option<Proposal>
     requires total { total ≡ sum s.now.carried.now }
     requires bucket { bucket < length s.now.owners.now }
     requires to { to < length s.now.carried.now }
-    ensures { result ≡ (if allowed (scene_at s.now) bucket to then Some (proposal (scene_at s.now) bucket to) else None) }
+    ensures { result ≡ (if allowed (round_state_at s.now) bucket to then Some (proposal (round_state_at s.now) bucket to) else None) }
 {
     if !may_leave(s, total, bucket) {
         return None;
@@ -50,12 +50,12 @@ fn best_above(
     half: u64,
 ) -> Option<Proposal>
     requires stands { Stands s.now }
-    requires ranking { IsRanking s.now.loads.now s.now.owners.now (scene_at s.now).taken ranking.now }
+    requires ranking { IsRanking s.now.loads.now s.now.owners.now (round_state_at s.now).taken ranking.now }
     requires total { total ≡ sum s.now.carried.now }
     requires from { from < length s.now.carried.now }
     requires to { to < length s.now.carried.now }
     requires half { slice_index s.now.carried.now from - slice_index s.now.carried.now to ≤ half + half }
-    ensures { Leads (scene_at s.now) to (λ b. (slice_index s.now.owners.now b ≡ from) × (half ≤ slice_index s.now.loads.now.bucket b)) result }
+    ensures { IsLeading (round_state_at s.now) to (λ b. (slice_index s.now.owners.now b ≡ from) × (half ≤ slice_index s.now.loads.now.bucket b)) result }
 {
     let bucket = first_free(s, ranking, from, half)?;
     choice(s, total, bucket, to)
@@ -71,12 +71,12 @@ fn best_below(
     half: u64,
 ) -> Option<Proposal>
     requires stands { Stands s.now }
-    requires ranking { IsRanking s.now.loads.now s.now.owners.now (scene_at s.now).taken ranking.now }
+    requires ranking { IsRanking s.now.loads.now s.now.owners.now (round_state_at s.now).taken ranking.now }
     requires total { total ≡ sum s.now.carried.now }
     requires from { from < length s.now.carried.now }
     requires to { to < length s.now.carried.now }
     requires half { half + half ≤ slice_index s.now.carried.now from - slice_index s.now.carried.now to + 1 }
-    ensures { Leads (scene_at s.now) to (λ b. (slice_index s.now.owners.now b ≡ from) × (slice_index s.now.loads.now.bucket b < half)) result }
+    ensures { IsLeading (round_state_at s.now) to (λ b. (slice_index s.now.owners.now b ≡ from) × (slice_index s.now.loads.now.bucket b < half)) result }
 {
     let load = last_free(s, ranking, from, half)?;
     let bucket = first_free(s, ranking, from, load)?;
@@ -93,11 +93,11 @@ fn best_between(
     to: u8,
 ) -> Option<Proposal>
     requires stands { Stands s.now }
-    requires ranking { IsRanking s.now.loads.now s.now.owners.now (scene_at s.now).taken ranking.now }
+    requires ranking { IsRanking s.now.loads.now s.now.owners.now (round_state_at s.now).taken ranking.now }
     requires total { total ≡ sum s.now.carried.now }
     requires from { from < length s.now.carried.now }
     requires to { to < length s.now.carried.now }
-    ensures { Leads (scene_at s.now) to (λ b. slice_index s.now.owners.now b ≡ from) result }
+    ensures { IsLeading (round_state_at s.now) to (λ b. slice_index s.now.owners.now b ≡ from) result }
 {
     let apart = s.carried[from as usize].saturating_sub(s.carried[to as usize]);
     let half = apart - apart / 2;
@@ -130,12 +130,12 @@ fn best_up_to(
     best: Option<Proposal>,
 ) -> Option<Proposal>
     requires stands { Stands s.now }
-    requires ranking { IsRanking s.now.loads.now s.now.owners.now (scene_at s.now).taken ranking.now }
+    requires ranking { IsRanking s.now.loads.now s.now.owners.now (round_state_at s.now).taken ranking.now }
     requires total { total ≡ sum s.now.carried.now }
     requires from { from < length s.now.carried.now }
     requires to { to < length s.now.carried.now }
-    requires best { Leads (scene_at s.now) to (λ b. slice_index s.now.owners.now b < from) best }
-    ensures { Leads (scene_at s.now) to (λ b. slice_index s.now.owners.now b < from + 1) result }
+    requires best { IsLeading (round_state_at s.now) to (λ b. slice_index s.now.owners.now b < from) best }
+    ensures { IsLeading (round_state_at s.now) to (λ b. slice_index s.now.owners.now b < from + 1) result }
 {
     let carried = s.carried[from as usize];
     if s.carried.len() as u64 * carried <= total {
@@ -167,8 +167,8 @@ fn least_core(carried: &[u64]) -> u8
 /// the least, so the pairs with the lowest of these cores are the only ones that can win.
 pub fn best_ranked(s: &Standing<'_>, ranking: &[Ranked]) -> Option<Proposal>
     requires stands { Stands s.now }
-    requires ranking { IsRanking s.now.loads.now s.now.owners.now (scene_at s.now).taken ranking.now }
-    ensures { result ≡ greatest (choices (scene_at s.now)) }
+    requires ranking { IsRanking s.now.loads.now s.now.owners.now (round_state_at s.now).taken ranking.now }
+    ensures { result ≡ greatest (choices (round_state_at s.now)) }
 {
     if s.carried.is_empty() {
         return None;

@@ -2,12 +2,12 @@
 ghost use Rattle.std.specs.Prelude.{◌≡◌, ◌≤◌, ◌<◌, [], length, vec_capacity, true};
 ghost use Rattle.std.specs.List.{list_all};
 ghost use Rattle.balancer.specs.Lines.{parts};
-ghost use Rattle.balancer.specs.Numbers.{is_digit, value_of, number_of, numbers_of, numbers_behind, Gives};
+ghost use Rattle.balancer.specs.Numbers.{is_digit, digits_value, number_of, numbers_of, numbers_behind, Gives};
 
 use crate::place::{SPACE, around, place_of};
 
 /// The most digits of a number.
-pub const MOST_DIGITS: usize = 13;
+pub const PLAN_DIGITS: usize = 13;
 
 /// The most bytes of a line, without its line feed.
 pub const LONGEST_LINE: usize = 2_000;
@@ -20,10 +20,10 @@ fn all_digits(part: &[u8]) -> bool
 }
 
 // The number that digits spell.
-fn value_of(digits: &[u8]) -> u64
+fn digits_value(digits: &[u8]) -> u64
     requires digits { list_all is_digit digits.now ≡ true }
-    requires few { length digits.now ≤ MOST_DIGITS }
-    ensures { result ≡ value_of digits.now }
+    requires few { length digits.now ≤ PLAN_DIGITS }
+    ensures { result ≡ digits_value digits.now }
 {
     let mut value = 0;
     for digit in digits {
@@ -36,13 +36,13 @@ fn value_of(digits: &[u8]) -> u64
 pub(crate) fn number_of(part: &[u8]) -> Option<u64>
     ensures { result ≡ number_of part.now }
 {
-    if part.is_empty() || part.len() > MOST_DIGITS {
+    if part.is_empty() || part.len() > PLAN_DIGITS {
         return None;
     }
     if !all_digits(part) {
         return None;
     }
-    Some(value_of(part))
+    Some(digits_value(part))
 }
 
 // Puts the numbers of the parts of a text into the list, where all parts are numbers.

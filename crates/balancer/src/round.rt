@@ -2,7 +2,7 @@
 ghost use Rattle.std.specs.Prelude.{◌≡◌, ◌≢◌, ◌≤◌, ◌<◌, ◌+◌, ◌-◌, ◌^◌, ◌++◌, ◌∷◌, [], length, vec_capacity, slice_index, slice_set, Some};
 ghost use Rattle.balancer.specs.Greedy.{choices, greatest, greedy, moved, opening};
 ghost use Rattle.balancer.specs.Ranking.{IsRanking};
-ghost use Rattle.balancer.specs.Standing.{IsWeighed, scene_of};
+ghost use Rattle.balancer.specs.Standing.{IsWeighed, round_state_of};
 
 use crate::choice::best;
 use crate::nearest::best_ranked;
@@ -34,11 +34,11 @@ fn take_step(
     loads: &Loads,
     proposal: Proposal,
 )
-    requires weighed { IsWeighed (scene_of (length carried.old) loads.now owners.old proposals.old.items) carried.old }
-    requires best { greatest (choices (scene_of (length carried.old) loads.now owners.old proposals.old.items)) ≡ Some proposal }
+    requires weighed { IsWeighed (round_state_of (length carried.old) loads.now owners.old proposals.old.items) carried.old }
+    requires best { greatest (choices (round_state_of (length carried.old) loads.now owners.old proposals.old.items)) ≡ Some proposal }
     requires room { length proposals.old.items < vec_capacity proposals.old }
-    ensures weighed { IsWeighed (scene_of (length carried.new) loads.now owners.new proposals.new.items) carried.new }
-    ensures moved { scene_of (length carried.new) loads.now owners.new proposals.new.items ≡ moved (scene_of (length carried.old) loads.now owners.old proposals.old.items) proposal }
+    ensures weighed { IsWeighed (round_state_of (length carried.new) loads.now owners.new proposals.new.items) carried.new }
+    ensures moved { round_state_of (length carried.new) loads.now owners.new proposals.new.items ≡ moved (round_state_of (length carried.old) loads.now owners.old proposals.old.items) proposal }
     ensures proposals { proposals.new.items ≡ proposals.old.items ++ proposal ∷ [] }
     ensures room { vec_capacity proposals.new ≡ vec_capacity proposals.old }
 {

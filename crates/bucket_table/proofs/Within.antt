@@ -2,7 +2,7 @@
 use Rattle.std.proofs.Common.{◌≡◌, ℕ, ◌+◌, ◌≤◌, ◌<◌, arith, Bool, true, false, List, [], ◌∷◌, length, Option, Some, None, refl, sym, subst, unwrap_or}
 use Rattle.std.specs.Map.{lookup}
 use Rattle.indexmap.specs.IndexMap.{insert_entry}
-use Rattle.bucket_table.specs.Kept.{StandsWithin, AllWithin, IsKept}
+use Rattle.bucket_table.specs.Kept.{StandsWithin, AllWithin, IsSoundTable}
 
 module _ {K S : Type 0} (stands_for : S → ℕ → Type 0) where
   -- one more packet is done, of another flow
@@ -46,18 +46,18 @@ module _ {K S : Type 0} (stands_for : S → ℕ → Type 0) where
 
   -- what is true of a table stays true with one packet more
   pub kept_grown : (eq : K → K → Bool) (old new : List (K × S)) (done sum length most : ℕ) (key : K) (opening v : S) (short : Bool) →
-      IsKept stands_for old done sum → done < most → length ≤ 4294967295 → (short ≡ true → new ≡ old) → (short ≡ false → new ≡ insert_entry eq old key v) →
+      IsSoundTable stands_for old done sum → done < most → length ≤ 4294967295 → (short ≡ true → new ≡ old) → (short ≡ false → new ≡ insert_entry eq old key v) →
       (short ≡ false → (k : ℕ) → k < most → stands_for (unwrap_or (lookup (eq key) old) opening) k → stands_for v (k + 1)) → (short ≡ false → stands_for opening 0) →
-      IsKept stands_for new (done + 1) (sum + length)
+      IsSoundTable stands_for new (done + 1) (sum + length)
   kept_grown eq old new done sum length most key opening v true kept room small refused worked more none =
-      let P : List (K × S) → Type 0 = λ es. IsKept stands_for es (done + 1) (sum + length) in
+      let P : List (K × S) → Type 0 = λ es. IsSoundTable stands_for es (done + 1) (sum + length) in
       subst P (sym (refused refl)) record {
         states = within_later done old kept.states;
         few = omega (arith, kept.few);
         bytes = omega (arith, kept.bytes);
       }
   kept_grown eq old new done sum length most key opening v false kept room small refused worked more none =
-      let P : List (K × S) → Type 0 = λ es. IsKept stands_for es (done + 1) (sum + length) in
+      let P : List (K × S) → Type 0 = λ es. IsSoundTable stands_for es (done + 1) (sum + length) in
       let so_far = within_so_far (eq key) done old (lookup (eq key) old) opening kept.states (none refl) refl in
       let few : so_far.0 < most = omega (arith, so_far.1) in
       let few_more : so_far.0 + 1 ≤ done + 1 = omega (arith, so_far.1) in

@@ -12,7 +12,7 @@ abbrev pub AllWithin : {K S : Type 0} → (S → ℕ → Type 0) → ℕ → Lis
 AllWithin stands_for done entries = AllByRecursion (λ e. StandsWithin stands_for done e.1) entries
 
 -- each flow has packets, and each packet is below 2 ^ 32 bytes long
-pub record IsKept {K S : Type 0} (stands_for : S → ℕ → Type 0) (flows : List (K × S)) (done sum : ℕ) : Type 0 where
+pub record IsSoundTable {K S : Type 0} (stands_for : S → ℕ → Type 0) (flows : List (K × S)) (done sum : ℕ) : Type 0 where
   pub states : AllWithin stands_for done flows
   pub few : length flows ≤ done
   pub bytes : sum ≤ done * 4294967295

@@ -7,6 +7,9 @@
 //!
 //! Flows are found by a hash that drawn numbers key ([`FlowHashKey`]). Contracts don't see them: no
 //! answer depends on them.
+//!
+//! Read `specs/FirstKeys.antt` and `specs/Table.antt`, then `custody.rt`, `table.rt` and `laws.rt`.
+//! The hash stands by itself: `specs/FlowHash.antt`, then `flow_hash_key.rt` and `flow_hasher.rt`.
 #![tactic(auto)]
 
 mod custody;

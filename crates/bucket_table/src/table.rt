@@ -25,7 +25,7 @@ pub struct BucketTable<W: FlowWork> {
 
 impl<W: FlowWork> Model for BucketTable<W> {
     ghost use Rattle.bucket_table.specs.Table.{TableOf};
-    ghost use Rattle.bucket_table.specs.Kept.{IsKept};
+    ghost use Rattle.bucket_table.specs.Kept.{IsSoundTable};
 
     ghost Value = { TableOf W.State };
 
@@ -38,7 +38,7 @@ impl<W: FlowWork> Model for BucketTable<W> {
       custody = t.custody;
     } };
 
-    ghost invariant = { λ t. IsKept W.stands_for t.flows.value.entries t.done t.bytes };
+    ghost invariant = { λ t. IsSoundTable W.stands_for t.flows.value.entries t.done t.bytes };
 }
 
 // Works a packet into its flow, by one look-up, unless memory was refused before. Answers whether

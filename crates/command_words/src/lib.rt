@@ -7,6 +7,10 @@
 //! reads as one simple command and refuses for want of memory alone. Then each value is checked
 //! in the order of the table of options (`specs/Values.antt`). Every field of a command is in its
 //! range (`specs/Ranges.antt`).
+//!
+//! Read `specs/Words.antt`, `specs/Values.antt` and `specs/Reading.antt`, then `command.rt`,
+//! `word_fault.rt` and `reading.rt`. `specs/Refusals.antt` and `specs/Ranges.antt` stand by
+//! themselves. The other files are the look, the parse and the values.
 #![tactic(auto)]
 
 mod command;

@@ -6,19 +6,19 @@ use Rattle.packet_fields.specs.declared.packet.PacketInfo.{PacketInfo}
 use Rattle.toeplitz.specs.declared.key.Key.{Key}
 use Rattle.pcap_reader.specs.Reading.{Reading}
 use Rattle.indirection.specs.Story.{Step, parcels_of}
-use Rattle.core_queue.specs.declared.eye.LaneEye.{LaneEye}
+use Rattle.core_queue.specs.declared.history.LaneHistory.{LaneHistory}
 use Rattle.core_queue.specs.declared.item.Seen.{Seen}
 use Rattle.core_queue.specs.Cells.{plain, AreCarried}
-use Rattle.handover_words.specs.declared.eye.ShelfEye.{ShelfEye}
-use Rattle.load_meter.specs.declared.eye.LoadEye.{LoadEye}
-use Rattle.load_meter.specs.LoadEye.{known_at}
+use Rattle.handover_words.specs.declared.history.ShelfHistory.{ShelfHistory}
+use Rattle.load_meter.specs.declared.history.LoadHistory.{LoadHistory}
+use Rattle.load_meter.specs.LoadHistory.{known_at}
 use Rattle.dispatch_loop.specs.Costs.{HaveCosts}
-use Rattle.dispatch_loop.specs.Face.{Face}
+use Rattle.dispatch_loop.specs.DispatcherState.{DispatcherState}
 use Rattle.dispatch_loop.specs.Past.{Past}
 use Rattle.dispatch_loop.specs.Tied.{Tied, IsLaneOf, IsLawfulStill}
 use Rattle.dispatch_loop.specs.Borne.{SameSent, AreSentSame, IsBorne}
 
-lane-of : (packets : Option (List PacketInfo)) (f : Face) (steps : List Step) (c : ℕ) (e e' : LaneEye) → SameSent e e' → IsLaneOf packets f steps c e → IsLaneOf packets f steps c e'
+lane-of : (packets : Option (List PacketInfo)) (f : DispatcherState) (steps : List Step) (c : ℕ) (e e' : LaneHistory) → SameSent e e' → IsLaneOf packets f steps c e → IsLaneOf packets f steps c e'
 lane-of packets f steps c e e' s h = record {
   key = s.key ∙ h.key;
   buckets = s.buckets ∙ h.buckets;
@@ -27,7 +27,7 @@ lane-of packets f steps c e e' s h = record {
   costs = subst (λ (z : List Seen). HaveCosts f.terms.cost (parcels_of steps) z) (sym s.sent) h.costs;
 }
 
-still-lawful : (f : Face) (ps : List PacketInfo) (m m' : LoadEye) → ((c : ℕ) → known_at c m ≤ known_at c m') → IsLawfulStill f ps m → IsLawfulStill f ps m'
+still-lawful : (f : DispatcherState) (ps : List PacketInfo) (m m' : LoadHistory) → ((c : ℕ) → known_at c m ≤ known_at c m') → IsLawfulStill f ps m → IsLawfulStill f ps m'
 still-lawful f ps m m' more h = record {
   lawful = h.lawful;
   due_is = h.due_is;
@@ -40,7 +40,7 @@ still-lawful f ps m m' more h = record {
   worked = λ c inside. let a = h.worked c inside in let b = more c in omega arith;
 }
 
-pub bears : (packets : Option (List PacketInfo)) (p : Past) (f : Face) (lanes lanes' : List LaneEye) (v v' : ShelfEye) (m m' : LoadEye) (r : Reading) (l : Option (List ℕ)) → Tied packets p f lanes v m r l → IsBorne lanes lanes' v v' m m' → Tied packets p f lanes' v' m' r l
+pub bears : (packets : Option (List PacketInfo)) (p : Past) (f : DispatcherState) (lanes lanes' : List LaneHistory) (v v' : ShelfHistory) (m m' : LoadHistory) (r : Reading) (l : Option (List ℕ)) → Tied packets p f lanes v m r l → IsBorne lanes lanes' v v' m m' → Tied packets p f lanes' v' m' r l
 bears packets p f lanes lanes' v v' m m' r l t b = record {
   sound = t.sound;
   named = t.named;
@@ -61,16 +61,16 @@ bears packets p f lanes lanes' v v' m m' r l t b = record {
 }
 
 -- lanes that nobody touched
-pub untouched : (lanes : List LaneEye) → AreSentSame lanes lanes
+pub untouched : (lanes : List LaneHistory) → AreSentSame lanes lanes
 untouched lanes = record { wide = refl; each = λ c e at. (e, at, record { key = refl; buckets = refl; sent = refl }) }
 
 -- one of the lanes was taken from
-pub one-taken : {A : Type 0} (eye : A → LaneEye) (xs : List A) (i : ℕ) (v d : A) → i < length xs → SameSent (eye (get_or xs i d)) (eye v) → AreSentSame (map eye xs) (map eye (set xs i v))
-one-taken {A} eye xs i v d inside same = record { wide = length-map (set xs i v) eye ∙ (length-set xs i v ∙ sym (length-map xs eye)); each = each xs i same }
+pub one-taken : {A : Type 0} (history : A → LaneHistory) (xs : List A) (i : ℕ) (v d : A) → i < length xs → SameSent (history (get_or xs i d)) (history v) → AreSentSame (map history xs) (map history (set xs i v))
+one-taken {A} history xs i v d inside same = record { wide = length-map (set xs i v) history ∙ (length-set xs i v ∙ sym (length-map xs history)); each = each xs i same }
   where
-    each : (xs : List A) (i : ℕ) → SameSent (eye (get_or xs i d)) (eye v) → (c : ℕ) (e' : LaneEye) → slice_get (map eye (set xs i v)) c ≡ Some e' → (e : LaneEye) × (slice_get (map eye xs) c ≡ Some e) × SameSent e e'
+    each : (xs : List A) (i : ℕ) → SameSent (history (get_or xs i d)) (history v) → (c : ℕ) (e' : LaneHistory) → slice_get (map history (set xs i v)) c ≡ Some e' → (e : LaneHistory) × (slice_get (map history xs) c ≡ Some e) × SameSent e e'
     each [] i s c e' at = (e', at, record { key = refl; buckets = refl; sent = refl })
-    each (x ∷ xs) zero s zero e' at = let is : eye v ≡ e' = cc in (eye x, refl, subst (λ (z : LaneEye). SameSent (eye x) z) is s)
+    each (x ∷ xs) zero s zero e' at = let is : history v ≡ e' = cc in (history x, refl, subst (λ (z : LaneHistory). SameSent (history x) z) is s)
     each (x ∷ xs) zero s (suc c) e' at = (e', at, record { key = refl; buckets = refl; sent = refl })
     each (x ∷ xs) (suc i) s zero e' at = (e', at, record { key = refl; buckets = refl; sent = refl })
     each (x ∷ xs) (suc i) s (suc c) e' at = each xs i s c e' at

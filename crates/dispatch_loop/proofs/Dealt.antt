@@ -14,11 +14,11 @@ use Rattle.indirection.specs.Tries.{Ask, Proposed, Ordered, Try, ask_bucket, ask
 use Rattle.indirection.specs.Story.{Parcel, RoundHead, Step, Rounds, Tries, Sends, parcels_of, tries_of, try_of, count_in, owner_then, start_then, sent_then}
 use Rattle.packet_fields.specs.declared.packet.PacketInfo.{PacketInfo}
 use Rattle.handover_core.specs.Dispatch.{dispatched}
-use Rattle.handover_core.proofs.Desk.{IsTold-send, IsTold-try}
+use Rattle.handover_core.proofs.DispatcherSide.{IsTold-send, IsTold-try}
 use Rattle.flow_work.specs.declared.work.TheConstants.{MOST_COST, MOST_PACKETS}
 use Rattle.dispatch_loop.specs.Terms.{cores_of, buckets_of}
-use Rattle.dispatch_loop.specs.Face.{Face}
-use Rattle.dispatch_loop.specs.Desk.{decided_owners, decided_starts}
+use Rattle.dispatch_loop.specs.DispatcherState.{DispatcherState}
+use Rattle.dispatch_loop.specs.Decided.{decided_owners, decided_starts}
 use Rattle.dispatch_loop.specs.Past.{parcel_of}
 use Rattle.dispatch_loop.specs.Does.{with_round, without_round, noted, decided, with_packet, bucket_for, owner_for, more_at, IsDecided}
 use Rattle.dispatch_loop.specs.Tied.{IsDealt}
@@ -70,7 +70,7 @@ length-starts xs k (InPassage tail sent word) = refl
 
 -- a round
 
-pub dealt-round : (f : Face) (loads : LoadsView) (ss : List Step) (h : RoundHead) → IsDealt f ss → IsDealt (with_round f loads) (ss ++ Rounds h ∷ [])
+pub dealt-round : (f : DispatcherState) (loads : LoadsView) (ss : List Step) (h : RoundHead) → IsDealt f ss → IsDealt (with_round f loads) (ss ++ Rounds h ∷ [])
 dealt-round f loads ss h d = record {
   owners_wide = d.owners_wide;
   starts_wide = d.starts_wide;
@@ -86,7 +86,7 @@ dealt-round f loads ss h d = record {
   told = rw (dispatched-push f.terms.start.owners ss (Rounds h), tries_of-round ss h, parcels_of-round ss h, append-nil (dispatched f.terms.start.owners ss)) d.told;
 }
 
-pub dealt-refused : (f : Face) (ss : List Step) → IsDealt f ss → IsDealt (without_round f) ss
+pub dealt-refused : (f : DispatcherState) (ss : List Step) → IsDealt f ss → IsDealt (without_round f) ss
 dealt-refused f ss d = record {
   owners_wide = d.owners_wide;
   starts_wide = d.starts_wide;
@@ -104,7 +104,7 @@ dealt-refused f ss d = record {
 
 -- a try
 
-pub dealt-noted : (f : Face) (a : Ask) (o : Outcome) (ss : List Step) → IsDealt f ss → IsDealt (noted f a o) ss
+pub dealt-noted : (f : DispatcherState) (a : Ask) (o : Outcome) (ss : List Step) → IsDealt f ss → IsDealt (noted f a o) ss
 dealt-noted f (Proposed at p) o ss d = record {
   owners_wide = d.owners_wide;
   starts_wide = d.starts_wide;
@@ -135,11 +135,11 @@ dealt-noted f (Ordered m) o ss d = record {
 }
 
 -- an outcome by what is kept is one by the steps
-pub outcome_then : (f : Face) (ss : List Step) (a : Ask) (o : Outcome) → IsDealt f ss → ask_bucket a < buckets_of f.terms → IsDecided f a o
+pub outcome_then : (f : DispatcherState) (ss : List Step) (a : Ask) (o : Outcome) → IsDealt f ss → ask_bucket a < buckets_of f.terms → IsDecided f a o
     → IsOutcome (owner_then f.terms.start.owners ss (ask_bucket a)) (ask_to a) (sent_then ss (ask_bucket a)) (start_then ss (ask_bucket a)) o
 outcome_then f ss a o d h is = rw (← d.owners (ask_bucket a) h, ← d.counts (ask_bucket a) h, ← d.starts (ask_bucket a) h) is
 
-pub dealt-decided : (f : Face) (ss : List Step) (a : Ask) (o : Outcome) → IsDealt f ss → ask_bucket a < buckets_of f.terms → ask_to a < cores_of f.terms → IsDecided f a o → IsDealt (decided f (ask_bucket a) (ask_to a) o) (ss ++ Tries a o ∷ [])
+pub dealt-decided : (f : DispatcherState) (ss : List Step) (a : Ask) (o : Outcome) → IsDealt f ss → ask_bucket a < buckets_of f.terms → ask_to a < cores_of f.terms → IsDecided f a o → IsDealt (decided f (ask_bucket a) (ask_to a) o) (ss ++ Tries a o ∷ [])
 dealt-decided f ss a o d h to is = record {
   inside = λ b l. subst (λ (n : ℕ). n < cores_of f.terms) (sym (owners-get f.owners q (ask_to a) b o (let w = d.owners_wide in omega arith))) (by-either (q == b) (slice_index f.owners b) o (d.inside b l));
   owners_wide = length-owners f.owners q (ask_to a) o ∙ d.owners_wide;
@@ -177,7 +177,7 @@ dealt-decided f ss a o d h to is = record {
 
 -- a packet
 
-pub dealt-send : (f : Face) (ss : List Step) (info : PacketInfo) → IsDealt f ss → bucket_for f info < buckets_of f.terms → owner_for f info < cores_of f.terms → f.sent < MOST_PACKETS → f.terms.cost info ≤ MOST_COST
+pub dealt-send : (f : DispatcherState) (ss : List Step) (info : PacketInfo) → IsDealt f ss → bucket_for f info < buckets_of f.terms → owner_for f info < cores_of f.terms → f.sent < MOST_PACKETS → f.terms.cost info ≤ MOST_COST
     → IsDealt (with_packet f info) (ss ++ Sends (parcel_of f.terms info) ∷ [])
 dealt-send f ss info d h inside few cheap = record {
   owners_wide = d.owners_wide;

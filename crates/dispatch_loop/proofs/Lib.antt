@@ -9,9 +9,11 @@ pub mod LaneSteps
 pub mod Carrying
 pub mod CostsKept
 pub mod Dues
+pub mod LawfulParts
 pub mod Lawfuls
 pub mod Framed
 pub mod Ties
+pub mod SentTies
 pub mod Acted
 pub mod States
 pub mod Turned

@@ -15,24 +15,24 @@ use Rattle.pcap_reader.proofs.SoFar.{SoFar-end, SoFar-push, SoFar-break, SoFar-b
 use Rattle.pcap_reader.proofs.Taken.{SoFar-no_more, SoFar-stopped, SoFar-failed}
 use Rattle.dispatch_loop.specs.declared.dispatcher_end.DispatcherEnd.TheVariants as end
 use Rattle.dispatch_loop.specs.Past.{Past, IsReading, IsOver}
-use Rattle.dispatch_loop.specs.Packets.{packet_of, packets_in, ArePackets}
+use Rattle.dispatch_loop.specs.Packets.{packet_of, packet_answer, ArePackets}
 
 -- a fact of known bytes that follows from another
 pub if_known : (left : Option (List ℕ)) (P Q : List ℕ → Type 0) → ((bytes : List ℕ) → P bytes → Q bytes) → IfSome left P → IfSome left Q
 if_known None P Q f h = tt
 if_known (Some bytes) P Q f h = f bytes h
 
-pub packets_none : (a : Result (Option Captured) ReadError) → Ok None ≡ packets_in a → a ≡ Ok None
+pub packets_none : (a : Result (Option Captured) ReadError) → Ok None ≡ packet_answer a → a ≡ Ok None
 packets_none (Ok None) e = refl
 packets_none (Ok (Some r)) e = cc
 packets_none (Err x) e = cc
 
-pub packets_some : (a : Result (Option Captured) ReadError) (p : PacketInfo) → Ok (Some p) ≡ packets_in a → (r : Captured) × (a ≡ Ok (Some r)) × (p ≡ packet_of r)
+pub packets_some : (a : Result (Option Captured) ReadError) (p : PacketInfo) → Ok (Some p) ≡ packet_answer a → (r : Captured) × (a ≡ Ok (Some r)) × (p ≡ packet_of r)
 packets_some (Ok None) p e = absurd (cc)
 packets_some (Ok (Some r)) p e = (r, refl, cc)
 packets_some (Err x) p e = absurd (cc)
 
-pub packets_err : (a : Result (Option Captured) ReadError) (error : ReadError) → Err error ≡ packets_in a → a ≡ Err error
+pub packets_err : (a : Result (Option Captured) ReadError) (error : ReadError) → Err error ≡ packet_answer a → a ≡ Err error
 packets_err (Ok None) error e = cc
 packets_err (Ok (Some r)) error e = cc
 packets_err (Err x) error e = cc
@@ -44,7 +44,7 @@ advanced old new b n a going h = subst (λ (p : Progress). ProceedsFrom p old ne
 -- a call of a reader that goes on
 pub record Calls (old new : Reading) (b n : Option (List ℕ)) (result : Result (Option PacketInfo) ReadError) : Type 0 where
   pub answer : Result (Option Captured) ReadError
-  pub is : result ≡ packets_in answer
+  pub is : result ≡ packet_answer answer
   pub proceeds : Proceeds old new b n answer
 
 pub same_length : (rs : List Captured) → length (map packet_of rs) ≡ length rs

@@ -1,8 +1,8 @@
 -- Each rule keeps a dispatcher tied to its past and its ends.
-use Rattle.std.proofs.Common.{◌≡◌, ◌≢◌, ℕ, zero, suc, ◌+◌, ◌<◌, ◌≤◌, List, [], ◌∷◌, ◌++◌, length, map, drop, get_or, replicate, append_assoc, refl, sym, ap, ◌∙◌, subst, arith, Bool, true, false, if◌then◌else◌, ◌==◌, ◌*◌, Option, None, Some, All, ⊎_elim, inl, inr, length-append}
+use Rattle.std.proofs.Common.{◌≡◌, ◌≢◌, ℕ, zero, suc, ◌+◌, ◌<◌, ◌≤◌, List, [], ◌∷◌, ◌++◌, length, drop, get_or, replicate, append_assoc, refl, sym, ap, ◌∙◌, subst, arith, Bool, true, false, Option, None, All, ⊎_elim, inl, inr, length-append}
 use Rattle.std.specs.Prelude.{slice_index}
-use Rattle.std.proofs.lemmas.Bool.{cases_lt, cases_eq}
-use Rattle.std.proofs.lemmas.List.{append-nil, length-set, get_or-replicate, length-replicate}
+use Rattle.std.proofs.lemmas.Bool.{cases_lt}
+use Rattle.std.proofs.lemmas.List.{append-nil, get_or-replicate, length-replicate}
 use Rattle.std.proofs.Math.ListN.{get_or-eq_default}
 use Rattle.std.proofs.lemmas.List.Elements.{All-append}
 use Rattle.packet_fields.specs.declared.packet.PacketInfo.{PacketInfo}
@@ -15,53 +15,43 @@ use Rattle.indirection.specs.declared.entry.Entry.{Entry}
 use Rattle.indirection.specs.declared.entry.Entry.TheVariants.{Round, Order}
 use Rattle.indirection.specs.Rounds.{entries_with, round_with, opened_round}
 use Rattle.indirection.proofs.LastRounds.{entries_with-at}
-use Rattle.indirection.specs.Tries.{Ask, Proposed, Ordered, ask_bucket, ask_to}
-use Rattle.indirection.proofs.Steps.{parcels_of-append, parcels_of-round, parcels_of-try}
-use Rattle.indirection.specs.Story.{parcels_of, count_in, owner_then, start_then, sent_then, Parcel, RoundHead, Step, Rounds, Tries, Sends}
+use Rattle.indirection.specs.Tries.{Ask, Proposed, Ordered, ask_bucket}
+use Rattle.indirection.proofs.Steps.{parcels_of-round, parcels_of-try}
+use Rattle.indirection.specs.Story.{Parcel, RoundHead, Step, Rounds, Tries}
 use Rattle.indirection.specs.Due.{RoundDue, TryDue, PacketDue}
 use Rattle.balancer.specs.Moves.{AreMoves}
 use Rattle.handover_core.specs.declared.item.Kind.TheVariants.{Mark}
 use Rattle.handover_core.specs.declared.item.Item.TheVariants.{Of}
 use Rattle.handover_core.specs.declared.post.Post.{Post}
-use Rattle.handover_core.specs.Legal.{Legal}
-use Rattle.handover_core.specs.Dispatch.{kind_at, dispatched, ends, stream}
-use Rattle.core_queue.specs.declared.eye.LaneEye.{LaneEye}
-use Rattle.core_queue.specs.declared.item.Seen.{Seen}
-use Rattle.core_queue.specs.declared.item.Seen.TheVariants.{Packet, Close}
-use Rattle.core_queue.specs.LaneEye.{sent_on}
-use Rattle.core_queue.specs.Cells.{plain, IsCarried}
-use Rattle.handover_words.specs.declared.eye.ShelfEye.{ShelfEye}
-use Rattle.load_meter.specs.declared.eye.LoadEye.{LoadEye}
-use Rattle.pcap_reader.specs.Capture.{Captured}
+use Rattle.handover_core.specs.Dispatch.{dispatched, ends, stream}
+use Rattle.core_queue.specs.declared.history.LaneHistory.{LaneHistory}
+use Rattle.core_queue.specs.declared.item.Seen.TheVariants.{Packet}
+use Rattle.core_queue.specs.LaneHistory.{sent_on}
+use Rattle.handover_words.specs.declared.history.ShelfHistory.{ShelfHistory}
+use Rattle.load_meter.specs.declared.history.LoadHistory.{LoadHistory}
 use Rattle.pcap_reader.specs.Reading.{Reading}
 use Rattle.dispatch_loop.specs.declared.dispatcher_end.DispatcherEnd.{DispatcherEnd}
-use Rattle.flow_work.specs.declared.work.TheConstants.{MOST_COST}
 use Rattle.dispatch_loop.specs.Terms.{Terms, cores_of, buckets_of}
-use Rattle.dispatch_loop.specs.Costs.{HasCost, HaveCosts}
-use Rattle.dispatch_loop.specs.Face.{Face}
-use Rattle.dispatch_loop.specs.Asks.{rest_of, RiseFrom, due_now, owner_at, start_at, count_at}
+use Rattle.dispatch_loop.specs.DispatcherState.{DispatcherState}
+use Rattle.dispatch_loop.specs.Asks.{rest_of, RiseFrom, due_now, owner_at}
 use Rattle.dispatch_loop.specs.Lanes.{changed_at}
-use Rattle.dispatch_loop.specs.Packets.{packet_of}
-use Rattle.dispatch_loop.specs.Past.{Past, past, parcels, parcel_of, story, IsFed, IsReading}
-use Rattle.dispatch_loop.specs.Sends.{CanSend}
-use Rattle.dispatch_loop.specs.Does.{read_from, AreReadings, loads_of, with_round, without_round, noted, decided, with_packet, mark_of, cell_of, bucket_for, owner_for, IsDecided}
+use Rattle.dispatch_loop.specs.Past.{Past, parcels, story, IsFed}
+use Rattle.dispatch_loop.specs.Does.{read_from, AreReadings, loads_of, with_round, without_round, noted, decided, mark_of, IsDecided}
 use Rattle.dispatch_loop.specs.Tied.{Tied, IsDealt, AreLanesOf, IsRoundHere}
-use Rattle.dispatch_loop.proofs.Lists.{rest-drop, here, here-cons}
+use Rattle.dispatch_loop.proofs.Lists.{rest-drop, here}
 use Rattle.dispatch_loop.proofs.StoryMore.{dispatched-push}
-use Rattle.dispatch_loop.proofs.StorySteps.{length-parcels, AtMost-more, AtMost-push, told-packet, told-round, told-order, told-outcome, within-outcome}
-use Rattle.dispatch_loop.proofs.Dealt.{more-get, if-most, dealt-round, dealt-refused, dealt-noted, dealt-decided, dealt-send}
-use Rattle.dispatch_loop.proofs.CostsKept.{behind-count, cost-last, costs-more, has-cost}
-use Rattle.dispatch_loop.proofs.LaneSteps.{costs_to, posted, lanes-same, lanes-push, can-send, ends-more, legal-end}
-use Rattle.dispatch_loop.proofs.Carrying.{at-place, carries, count-parcels, bucket-below}
-use Rattle.dispatch_loop.proofs.Dues.{IsProposed, IsOrdered, round_due, none_waits, packet_not_round}
-use Rattle.dispatch_loop.proofs.Lawfuls.{lawful-round, lawful-ordered, lawful-proposed, lawful-send, next-proposal}
+use Rattle.dispatch_loop.proofs.StorySteps.{length-parcels, AtMost-push, told-round, told-order, told-outcome, within-outcome}
+use Rattle.dispatch_loop.proofs.Dealt.{dealt-round, dealt-refused, dealt-noted, dealt-decided}
+use Rattle.dispatch_loop.proofs.LaneSteps.{costs_to, lanes-same, lanes-push}
+use Rattle.dispatch_loop.proofs.Dues.{IsProposed, IsOrdered, round_due, packet_not_round}
+use Rattle.dispatch_loop.proofs.Lawfuls.{lawful-round, lawful-ordered, lawful-proposed, next-proposal}
 use Rattle.dispatch_loop.proofs.Weighed.{cores_same}
 use Rattle.dispatch_loop.proofs.Framed.{framed, dealt-framed, orders-framed, loads-framed, lawful-framed}
 
-not_packet : (a : Ask) → TryDue a ≡ PacketDue → ⊥
+pub not_packet : (a : Ask) → TryDue a ≡ PacketDue → ⊥
 not_packet a e = cc
 
-abbrev mark_post : ℕ → ℕ → ℕ → Post
+abbrev pub mark_post : ℕ → ℕ → ℕ → Post
 mark_post c b tail = record { core = c; item = Of Mark b tail }
 
 zero-get : (n b : ℕ) → slice_index (replicate n 0) b ≤ 0
@@ -70,20 +60,26 @@ zero-get n b = ⊎_elim
     (λ (h : n ≤ b). let w : length {A = ℕ} (replicate n 0) ≡ n = length-replicate n 0 in let e : get_or {A = ℕ} (replicate n 0) b 0 ≡ 0 = get_or-eq_default (replicate n 0) 0 {n = b} (omega arith) in omega arith) (cases_lt b n)
 
 -- how many packets were sent
-pub sent-is : (f : Face) (ps : List PacketInfo) → IsDealt f (story f ps) → f.sent ≡ length ps
+pub sent-is : (f : DispatcherState) (ps : List PacketInfo) → IsDealt f (story f ps) → f.sent ≡ length ps
 sent-is f ps d = d.sent ∙ (ap (λ (z : List Parcel). length z) (parcels_of-told f.journal.entries 0 (parcels f.terms ps)) ∙ length-parcels f.terms ps)
+
+none-more : (ds : List Post) (n : ℕ) → (ds ++ []) ++ ends n ≡ ds ++ ends n
+none-more ds n = ap (λ (z : List Post). z ++ ends n) (append-nil ds)
+
+pub one-more : (ds : List Post) (n : ℕ) (x : Post) → n ≡ 0 → (ds ++ x ∷ []) ++ ends n ≡ (ds ++ ends n) ++ x ∷ []
+one-more ds n x e = subst (λ (k : ℕ). (ds ++ x ∷ []) ++ ends k ≡ (ds ++ ends k) ++ x ∷ []) (sym e) (append-nil (ds ++ x ∷ []) ∙ ap (λ (z : List Post). z ++ x ∷ []) (sym (append-nil ds)))
 
 module _ (packets : Option (List PacketInfo)) (p : Past) where
   -- no core got its End while something else is due
-  pub no-ends : (f : Face) (lanes : List LaneEye) (v : ShelfEye) (m : LoadEye) (r : Reading) (l : Option (List ℕ)) → Tied packets p f lanes v m r l → due_now f ≢ PacketDue → f.ends ≡ 0
+  pub no-ends : (f : DispatcherState) (lanes : List LaneHistory) (v : ShelfHistory) (m : LoadHistory) (r : Reading) (l : Option (List ℕ)) → Tied packets p f lanes v m r l → due_now f ≢ PacketDue → f.ends ≡ 0
   no-ends f lanes v m r l t ne = ⊎_elim (λ (h : 0 < f.ends). absurd (ne (t.none_due (t.ends_last h)))) (λ (h : f.ends ≤ 0). omega arith) (cases_lt 0 f.ends)
 
-  pub open-ends : (f : Face) (lanes : List LaneEye) (v : ShelfEye) (m : LoadEye) (r : Reading) (l : Option (List ℕ)) → Tied packets p f lanes v m r l → f.end ≡ None → f.ends ≡ 0
+  pub open-ends : (f : DispatcherState) (lanes : List LaneHistory) (v : ShelfHistory) (m : LoadHistory) (r : Reading) (l : Option (List ℕ)) → Tied packets p f lanes v m r l → f.end ≡ None → f.ends ≡ 0
   open-ends f lanes v m r l t e = ⊎_elim (λ (h : 0 < f.ends). absurd (t.ends_last h e)) (λ (h : f.ends ≤ 0). omega arith) (cases_lt 0 f.ends)
 
   -- a round was made
 
-  pub tied-round : (f : Face) (lanes : List LaneEye) (v : ShelfEye) (m : LoadEye) (r : Reading) (l : Option (List ℕ)) → Tied packets p f lanes v m r l → due_now f ≡ RoundDue → (now : Option (List ℕ)) (readings : List ℕ) → length readings ≡ cores_of f.terms → AreReadings now m 0 readings
+  pub tied-round : (f : DispatcherState) (lanes : List LaneHistory) (v : ShelfHistory) (m : LoadHistory) (r : Reading) (l : Option (List ℕ)) → Tied packets p f lanes v m r l → due_now f ≡ RoundDue → (now : Option (List ℕ)) (readings : List ℕ) → length readings ≡ cores_of f.terms → AreReadings now m 0 readings
       → AreMoves (cores_of f.terms) (buckets_of f.terms) (with_round f (loads_of f readings)).proposals → Tied packets p (with_round f (loads_of f readings)) lanes v (read_from 0 readings m) r l
   tied-round f lanes v m r l t d now readings count answers moves = record {
     sound = t.sound;
@@ -112,7 +108,7 @@ module _ (packets : Option (List PacketInfo)) (p : Past) where
     words = t.words;
     numbers = let c = cores_same 0 readings m in let n = t.numbers in omega arith;
   } where
-    f' : Face
+    f' : DispatcherState
     f' = with_round f (loads_of f readings)
 
     ss : List Step
@@ -129,7 +125,7 @@ module _ (packets : Option (List PacketInfo)) (p : Past) where
 
   -- a round was refused memory
 
-  pub tied-refused : (f : Face) (lanes : List LaneEye) (v : ShelfEye) (m : LoadEye) (r : Reading) (l : Option (List ℕ)) → Tied packets p f lanes v m r l → due_now f ≡ RoundDue → (readings : List ℕ) → Tied packets p (without_round f) lanes v (read_from 0 readings m) r l
+  pub tied-refused : (f : DispatcherState) (lanes : List LaneHistory) (v : ShelfHistory) (m : LoadHistory) (r : Reading) (l : Option (List ℕ)) → Tied packets p f lanes v m r l → due_now f ≡ RoundDue → (readings : List ℕ) → Tied packets p (without_round f) lanes v (read_from 0 readings m) r l
   tied-refused f lanes v m r l t d readings = record {
     sound = t.sound;
     named = t.named;
@@ -151,7 +147,7 @@ module _ (packets : Option (List PacketInfo)) (p : Past) where
 
   -- something else is held, or the stream has ended, or an End was sent; the lanes are as they were
 
-  pub tied-framed : (f : Face) (lanes lanes' : List LaneEye) (v v' : ShelfEye) (m : LoadEye) (r r' : Reading) (l l' : Option (List ℕ)) (h : Option PacketInfo) (b : Bool) (e : Option DispatcherEnd) (n : ℕ) → Tied packets p f lanes v m r l
+  pub tied-framed : (f : DispatcherState) (lanes lanes' : List LaneHistory) (v v' : ShelfHistory) (m : LoadHistory) (r r' : Reading) (l l' : Option (List ℕ)) (h : Option PacketInfo) (b : Bool) (e : Option DispatcherEnd) (n : ℕ) → Tied packets p f lanes v m r l
       → AreLanesOf packets (framed f h b e n) (story f p.packets) lanes' → v'.buckets ≡ v.buckets → IsFed f.terms.packets p h e r' l' → n ≤ cores_of f.terms → (0 < n → e ≢ None) → (e ≢ None → due_now f ≡ PacketDue) → Tied packets p (framed f h b e n) lanes' v' m r' l'
   tied-framed f lanes lanes' v v' m r r' l l' h b e n t sent words fed few last none = record {
     sound = t.sound;
@@ -175,33 +171,27 @@ module _ (packets : Option (List PacketInfo)) (p : Past) where
   -- an order was tried
 
   -- the lanes after an outcome: a move has sent its mark to the owner
-  abbrev pub LanesAfter : Face → ℕ → Outcome → List LaneEye → List LaneEye → Type 0
+  abbrev pub LanesAfter : DispatcherState → ℕ → Outcome → List LaneHistory → List LaneHistory → Type 0
   LanesAfter f b (Moved tail) lanes lanes' = lanes' ≡ changed_at (owner_at f b) (sent_on (Packet (mark_of f b))) lanes
   LanesAfter f b Placed lanes lanes' = lanes' ≡ lanes
   LanesAfter f b Same lanes lanes' = lanes' ≡ lanes
   LanesAfter f b (InPassage tail sent word) lanes lanes' = lanes' ≡ lanes
 
-  none-more : (ds : List Post) (n : ℕ) → (ds ++ []) ++ ends n ≡ ds ++ ends n
-  none-more ds n = ap (λ (z : List Post). z ++ ends n) (append-nil ds)
-
-  one-more : (ds : List Post) (n : ℕ) (x : Post) → n ≡ 0 → (ds ++ x ∷ []) ++ ends n ≡ (ds ++ ends n) ++ x ∷ []
-  one-more ds n x e = subst (λ (k : ℕ). (ds ++ x ∷ []) ++ ends k ≡ (ds ++ ends k) ++ x ∷ []) (sym e) (append-nil (ds ++ x ∷ []) ∙ ap (λ (z : List Post). z ++ x ∷ []) (sym (append-nil ds)))
-
-  after-try : (f f' : Face) (ss : List Step) (a : Ask) (o : Outcome) (lanes lanes' : List LaneEye) → AreLanesOf packets f ss lanes → IsDealt f ss → ask_bucket a < buckets_of f.terms → IsDecided f a o → f'.terms ≡ f.terms → f'.ends ≡ f.ends → f.ends ≡ 0
+  after-try : (f f' : DispatcherState) (ss : List Step) (a : Ask) (o : Outcome) (lanes lanes' : List LaneHistory) → AreLanesOf packets f ss lanes → IsDealt f ss → ask_bucket a < buckets_of f.terms → IsDecided f a o → f'.terms ≡ f.terms → f'.ends ≡ f.ends → f.ends ≡ 0
       → LanesAfter f (ask_bucket a) o lanes lanes' → AreLanesOf packets f' (ss ++ Tries a o ∷ []) lanes'
-  after-try f f' ss a Same lanes lanes' s d h is te ne zero_ends after = subst (λ (z : List LaneEye). AreLanesOf packets f' (ss ++ Tries a Same ∷ []) z) (sym after) (lanes-same packets f f' ss (ss ++ Tries a Same ∷ []) lanes s te
+  after-try f f' ss a Same lanes lanes' s d h is te ne zero_ends after = subst (λ (z : List LaneHistory). AreLanesOf packets f' (ss ++ Tries a Same ∷ []) z) (sym after) (lanes-same packets f f' ss (ss ++ Tries a Same ∷ []) lanes s te
       (ap (λ (k : Terms). dispatched k.start.owners (ss ++ Tries a Same ∷ []) ++ ends f'.ends) te ∙ (ap (λ (n : ℕ). dispatched f.terms.start.owners (ss ++ Tries a Same ∷ []) ++ ends n) ne ∙ (ap (λ (z : List Post). z ++ ends f.ends) (dispatched-push f.terms.start.owners ss (Tries a Same)) ∙ none-more (dispatched f.terms.start.owners ss) f.ends))) (parcels_of-try ss a Same))
-  after-try f f' ss a Placed lanes lanes' s d h is te ne zero_ends after = subst (λ (z : List LaneEye). AreLanesOf packets f' (ss ++ Tries a Placed ∷ []) z) (sym after) (lanes-same packets f f' ss (ss ++ Tries a Placed ∷ []) lanes s te
+  after-try f f' ss a Placed lanes lanes' s d h is te ne zero_ends after = subst (λ (z : List LaneHistory). AreLanesOf packets f' (ss ++ Tries a Placed ∷ []) z) (sym after) (lanes-same packets f f' ss (ss ++ Tries a Placed ∷ []) lanes s te
       (ap (λ (k : Terms). dispatched k.start.owners (ss ++ Tries a Placed ∷ []) ++ ends f'.ends) te ∙ (ap (λ (n : ℕ). dispatched f.terms.start.owners (ss ++ Tries a Placed ∷ []) ++ ends n) ne ∙ (ap (λ (z : List Post). z ++ ends f.ends) (dispatched-push f.terms.start.owners ss (Tries a Placed)) ∙ none-more (dispatched f.terms.start.owners ss) f.ends))) (parcels_of-try ss a Placed))
-  after-try f f' ss a (InPassage tail sent word) lanes lanes' s d h is te ne zero_ends after = subst (λ (z : List LaneEye). AreLanesOf packets f' (ss ++ Tries a (InPassage tail sent word) ∷ []) z) (sym after) (lanes-same packets f f' ss (ss ++ Tries a (InPassage tail sent word) ∷ []) lanes s te
+  after-try f f' ss a (InPassage tail sent word) lanes lanes' s d h is te ne zero_ends after = subst (λ (z : List LaneHistory). AreLanesOf packets f' (ss ++ Tries a (InPassage tail sent word) ∷ []) z) (sym after) (lanes-same packets f f' ss (ss ++ Tries a (InPassage tail sent word) ∷ []) lanes s te
       (ap (λ (k : Terms). dispatched k.start.owners (ss ++ Tries a (InPassage tail sent word) ∷ []) ++ ends f'.ends) te ∙ (ap (λ (n : ℕ). dispatched f.terms.start.owners (ss ++ Tries a (InPassage tail sent word) ∷ []) ++ ends n) ne ∙ (ap (λ (z : List Post). z ++ ends f.ends) (dispatched-push f.terms.start.owners ss (Tries a (InPassage tail sent word))) ∙ none-more (dispatched f.terms.start.owners ss) f.ends))) (parcels_of-try ss a (InPassage tail sent word)))
-  after-try f f' ss a (Moved tail) lanes lanes' s d h is te ne zero_ends after = subst (λ (z : List LaneEye). AreLanesOf packets f' (ss ++ Tries a (Moved tail) ∷ []) z) (sym after)
+  after-try f f' ss a (Moved tail) lanes lanes' s d h is te ne zero_ends after = subst (λ (z : List LaneHistory). AreLanesOf packets f' (ss ++ Tries a (Moved tail) ∷ []) z) (sym after)
       (lanes-push packets f f' ss (ss ++ Tries a (Moved tail) ∷ []) lanes (owner_at f (ask_bucket a)) (Packet (mark_of f (ask_bucket a))) s te
       (ap (λ (k : Terms). dispatched k.start.owners (ss ++ Tries a (Moved tail) ∷ []) ++ ends f'.ends) te ∙ (ap (λ (n : ℕ). dispatched f.terms.start.owners (ss ++ Tries a (Moved tail) ∷ []) ++ ends n) ne
       ∙ (ap (λ (z : List Post). z ++ ends f.ends) (dispatched-push f.terms.start.owners ss (Tries a (Moved tail)) ∙ ap (λ (x : Post). dispatched f.terms.start.owners ss ++ x ∷ []) (ap (λ (c : ℕ). mark_post c (ask_bucket a) tail) (sym (d.owners (ask_bucket a) h)) ∙ ap (λ (n : ℕ). mark_post (owner_at f (ask_bucket a)) (ask_bucket a) n) is.3))
       ∙ one-more (dispatched f.terms.start.owners ss) f.ends _ zero_ends))) (h, tt) (λ items w. costs_to f f' ss (ss ++ Tries a (Moved tail) ∷ []) items te (parcels_of-try ss a (Moved tail)) w) tt)
 
-  pub tied-ordered : (f : Face) (lanes lanes' : List LaneEye) (v v' : ShelfEye) (m : LoadEye) (r : Reading) (l : Option (List ℕ)) (a : Ask) (o : Outcome) → Tied packets p f lanes v m r l → (w : IsOrdered f a) → due_now f ≡ TryDue (Ordered w.order) → IsDecided f (Ordered w.order) o → w.order.bucket < buckets_of f.terms → w.order.to < cores_of f.terms
+  pub tied-ordered : (f : DispatcherState) (lanes lanes' : List LaneHistory) (v v' : ShelfHistory) (m : LoadHistory) (r : Reading) (l : Option (List ℕ)) (a : Ask) (o : Outcome) → Tied packets p f lanes v m r l → (w : IsOrdered f a) → due_now f ≡ TryDue (Ordered w.order) → IsDecided f (Ordered w.order) o → w.order.bucket < buckets_of f.terms → w.order.to < cores_of f.terms
       → LanesAfter f w.order.bucket o lanes lanes' → v'.buckets ≡ v.buckets → Tied packets p (noted (decided f w.order.bucket w.order.to o) (Ordered w.order) o) lanes' v' m r l
   tied-ordered f lanes lanes' v v' m r l a o t w d is h to after words = record {
     sound = t.sound;
@@ -229,7 +219,7 @@ module _ (packets : Option (List PacketInfo)) (p : Past) where
     words = words ∙ t.words;
     numbers = t.numbers;
   } where
-    f' : Face
+    f' : DispatcherState
     f' = noted (decided f w.order.bucket w.order.to o) (Ordered w.order) o
 
     ss : List Step
@@ -245,7 +235,7 @@ module _ (packets : Option (List PacketInfo)) (p : Past) where
     one-all x h zero d low = h
     one-all x h (suc k) d low = absurd (omega arith)
 
-  pub tied-proposed : (f : Face) (lanes lanes' : List LaneEye) (v v' : ShelfEye) (m : LoadEye) (r : Reading) (l : Option (List ℕ)) (a : Ask) (o : Outcome) → Tied packets p f lanes v m r l → (w : IsProposed f a) → due_now f ≡ TryDue (Proposed f.sent w.proposal) → IsDecided f (Proposed f.sent w.proposal) o → w.proposal.bucket < buckets_of f.terms → w.proposal.to < cores_of f.terms
+  pub tied-proposed : (f : DispatcherState) (lanes lanes' : List LaneHistory) (v v' : ShelfHistory) (m : LoadHistory) (r : Reading) (l : Option (List ℕ)) (a : Ask) (o : Outcome) → Tied packets p f lanes v m r l → (w : IsProposed f a) → due_now f ≡ TryDue (Proposed f.sent w.proposal) → IsDecided f (Proposed f.sent w.proposal) o → w.proposal.bucket < buckets_of f.terms → w.proposal.to < cores_of f.terms
       → IsRoundHere f → LanesAfter f w.proposal.bucket o lanes lanes' → v'.buckets ≡ v.buckets → Tied packets p (noted (decided f w.proposal.bucket w.proposal.to o) (Proposed f.sent w.proposal) o) lanes' v' m r l
   tied-proposed f lanes lanes' v v' m r l a o t w d is h to here after words = record {
     sound = t.sound;
@@ -282,7 +272,7 @@ module _ (packets : Option (List PacketInfo)) (p : Past) where
     q : Proposal
     q = w.proposal
 
-    f' : Face
+    f' : DispatcherState
     f' = noted (decided f q.bucket q.to o) (Proposed f.sent q) o
 
     ss : List Step
@@ -298,162 +288,3 @@ module _ (packets : Option (List PacketInfo)) (p : Past) where
     rest-all : (ps : List Proposal) → AreMoves (cores_of f.terms) (buckets_of f.terms) ps → AreMoves (cores_of f.terms) (buckets_of f.terms) (rest_of ps)
     rest-all [] a = a
     rest-all (x ∷ ps) a = λ k d low. a (suc k) d (omega arith)
-
-  -- a packet was sent
-
-  rise-more : (n : ℕ) (ms : List MoveOrder) → RiseFrom n ms → here n ms ≡ [] → RiseFrom (n + 1) ms
-  rise-more n [] r e = tt
-  rise-more n (m ∷ ms) r e = ⊎_elim (λ (q : m.at ≡ n). let z : m ∷ here n ms ≡ [] = sym (here-cons n m ms q) ∙ e in absurd (cc)) (λ (ne : m.at ≡ n → ⊥). (let a = r.0 in omega arith, r.1)) (cases_eq m.at n)
-
-  abbrev packet_post : ℕ → ℕ → ℕ → ℕ → Post
-  packet_post c start k b = record { core = c; item = Of (kind_at start k) b k }
-
-  -- what a packet adds to what is sent
-  packet-posted : (f : Face) (ss : List Step) (info : PacketInfo) → IsDealt f ss → bucket_for f info < buckets_of f.terms → f.ends ≡ 0 → posted (with_packet f info) (ss ++ Sends (parcel_of f.terms info) ∷ []) ≡ posted f ss ++ record { core = owner_for f info; item = plain (Packet (cell_of f info)) } ∷ []
-  packet-posted f ss info d h zero_ends =
-      ap (λ (z : List Post). z ++ ends f.ends) (dispatched-push start ss (Sends (parcel_of f.terms info)) ∙ ap (λ (x : Post). dispatched start ss ++ x ∷ []) same)
-      ∙ one-more (dispatched start ss) f.ends _ zero_ends where
-        start : List ℕ
-        start = f.terms.start.owners
-
-        b : ℕ
-        b = bucket_for f info
-
-        same : packet_post (owner_then start ss b) (start_then ss b) (sent_then ss b) b ≡ packet_post (owner_at f b) (start_at f b) (count_at f b) b
-        same = ap (λ (c : ℕ). packet_post c (start_then ss b) (sent_then ss b) b) (sym (d.owners b h))
-            ∙ (ap (λ (n : ℕ). packet_post (owner_at f b) n (sent_then ss b) b) (sym (d.starts b h)) ∙ ap (λ (k : ℕ). packet_post (owner_at f b) (start_at f b) k b) (sym (d.counts b h)))
-
-  -- the held packet is of its bucket, and at its place
-  packet-carried : (f : Face) (lanes : List LaneEye) (v : ShelfEye) (m : LoadEye) (r : Reading) (l : Option (List ℕ)) (info : PacketInfo) → Tied packets p f lanes v m r l → IsReading f.terms.packets p (Some info) r l → bucket_for f info < buckets_of f.terms → IsCarried packets f.terms.key (buckets_of f.terms) (Packet (cell_of f info))
-  packet-carried f lanes v m r l info t reading h = (
-    h,
-    carries packets f.terms.key (buckets_of f.terms) (start_at f (bucket_for f info)) (count_at f (bucket_for f info)) (cell_of f info) refl
-        (at-place packets f.terms.packets p info r l f.terms.key (buckets_of f.terms) (count_at f (bucket_for f info)) _ t.named reading
-        (t.dealt.counts (bucket_for f info) h ∙ (ap (λ (z : List Parcel). count_in (bucket_for f info) z) (parcels_of-told f.journal.entries 0 (parcels f.terms p.packets)) ∙ count-parcels f.terms (bucket_for f info) p.packets))),
-  )
-
-  -- what lanes carry costs as before, and the packet costs what its parcel does
-  costs_by : (f : Face) (ss : List Step) (info : PacketInfo) (items : List Seen) → HaveCosts f.terms.cost (parcels_of ss) items → HaveCosts f.terms.cost (parcels_of (ss ++ Sends (parcel_of f.terms info) ∷ [])) items
-  costs_by f ss info items w = subst (λ (z : List Parcel). HaveCosts f.terms.cost z items) (sym (parcels_of-append ss (Sends (parcel_of f.terms info) ∷ []))) (costs-more f.terms.cost (parcels_of ss) (parcel_of f.terms info ∷ []) items w)
-
-  packet-cost : (f : Face) (ss : List Step) (info : PacketInfo) → IsDealt f ss → bucket_for f info < buckets_of f.terms → HasCost f.terms.cost (parcels_of (ss ++ Sends (parcel_of f.terms info) ∷ [])) (Packet (cell_of f info))
-  packet-cost f ss info d h =
-      let x = parcel_of f.terms info in let b = bucket_for f info in
-      let place : count_at f b ≡ count_in b (parcels_of ss) = d.counts b h in
-      subst (λ (z : List Parcel). HasCost f.terms.cost z (Packet (cell_of f info))) (sym (parcels_of-append ss (Sends x ∷ [])))
-      (has-cost f.terms.cost (parcels_of ss ++ x ∷ []) (kind_at (start_at f b) (count_at f b)) (cell_of f info)
-      (behind-count b (count_at f b) (parcels_of ss) x refl place)
-      (sym (cost-last x (count_at f b) (parcels_of ss) place)))
-
-  pub held-reading : (f : Face) (r : Reading) (l : Option (List ℕ)) (info : PacketInfo) → IsFed f.terms.packets p f.held f.end r l → f.held ≡ Some info → f.end ≡ None → IsReading f.terms.packets p (Some info) r l
-  held-reading f r l info fed held goes = subst (λ (h : Option PacketInfo). IsReading f.terms.packets p h r l) held (subst (λ (e : Option DispatcherEnd). IsFed f.terms.packets p f.held e r l) goes fed)
-
-  pub some-bucket : (f : Face) (lanes : List LaneEye) (v : ShelfEye) (m : LoadEye) (r : Reading) (l : Option (List ℕ)) (info : PacketInfo) → Tied packets p f lanes v m r l → bucket_for f info < buckets_of f.terms
-  some-bucket f lanes v m r l info t = bucket-below f.terms.key (buckets_of f.terms) info (let s = t.sound.table.some_bucket in omega arith)
-
-  -- so many packets are sent before the held one
-  pub sent-few : (f : Face) (lanes : List LaneEye) (v : ShelfEye) (m : LoadEye) (r : Reading) (l : Option (List ℕ)) (info : PacketInfo) → Tied packets p f lanes v m r l → IsReading f.terms.packets p (Some info) r l → length p.packets + 1 ≤ f.terms.packets
-  sent-few f lanes v m r l info t h = let e = ap (λ (z : List PacketInfo). length z) h.are in let s = same-length h.records in let n = length-append p.packets (info ∷ []) in let w = h.few in omega arith
-    where
-      same-length : (rs : List Captured) → length (map packet_of rs) ≡ length rs
-      same-length [] = refl
-      same-length (x ∷ rs) = let e = same-length rs in omega arith
-
-  pub tied-sent : (f : Face) (lanes : List LaneEye) (v : ShelfEye) (m : LoadEye) (r : Reading) (l : Option (List ℕ)) (info : PacketInfo) → Tied packets p f lanes v m r l → due_now f ≡ PacketDue → f.held ≡ Some info → f.end ≡ None → owner_for f info < cores_of f.terms
-      → Tied packets (past p.bytes (p.packets ++ info ∷ [])) (with_packet f info) (changed_at (owner_for f info) (sent_on (Packet (cell_of f info))) lanes) v m r l
-  tied-sent f lanes v m r l info t d held goes inside = record {
-    sound = t.sound;
-    named = t.named;
-    start = t.start;
-    few = let n = length-append p.packets (info ∷ []) in let w = few in omega arith;
-    within = AtMost-more (length p.packets) (length (p.packets ++ info ∷ [])) f.journal.entries (let n = length-append p.packets (info ∷ []) in omega arith) t.within;
-    dealt = subst (λ (z : List Step). IsDealt f' z) (sym told) (dealt-send f ss info t.dealt h inside (let e = sent in let w = few in let s = t.sound.packets in omega arith) (t.sound.cost info));
-    sent = subst (λ (z : List Step). AreLanesOf packets f' z (changed_at (owner_for f info) (sent_on (Packet (cell_of f info))) lanes)) (sym told)
-        (lanes-push packets f f' ss (ss ++ Sends (parcel_of f.terms info) ∷ []) lanes (owner_for f info) (Packet (cell_of f info)) t.sent refl (packet-posted f ss info t.dealt h (open-ends f lanes v m r l t goes)) (packet-carried f lanes v m r l info t reading h)
-        (λ items w. costs_by f ss info items w) (packet-cost f ss info t.dealt h));
-    orders = record {
-      tried = t.orders.tried;
-      parts = t.orders.parts;
-      before = λ k x low. let b = t.orders.before k x low in omega arith;
-      ahead = rise-more f.sent f.orders t.orders.ahead nothing.1;
-      room = t.orders.room;
-      proposals = inl nothing.0;
-      moves = t.orders.moves;
-    };
-    loads = record {
-      wide = length-set f.loads (bucket_for f info) _ ∙ t.loads.wide;
-      few = λ b. let e = more-get f.loads (bucket_for f info) (f.terms.cost info) b (let w = t.loads.wide in omega arith) in let w = t.loads.few b in let o = if-most (bucket_for f info == b) (f.terms.cost info) MOST_COST (t.sound.cost info) in omega arith;
-      since = let w = t.loads.since in omega arith;
-    };
-    lawful = λ e. lawful-send f p.packets m info d e t.sound.some_round h t.loads.wide t.orders t.dealt t.within (t.lawful e);
-    fed = subst (λ (e : Option DispatcherEnd). IsFed f.terms.packets (past p.bytes (p.packets ++ info ∷ [])) None e r l) (sym goes) (record {
-      records = reading.records;
-      are = reading.are ∙ sym (append-nil (p.packets ++ info ∷ []));
-      given = reading.given;
-      few = reading.few;
-      going = reading.going;
-      so_far = reading.so_far;
-    });
-    ends_few = t.ends_few;
-    ends_last = t.ends_last;
-    none_due = λ e. absurd (e goes);
-    words = t.words;
-    numbers = t.numbers;
-  } where
-    f' : Face
-    f' = with_packet f info
-
-    ss : List Step
-    ss = story f p.packets
-
-    reading : IsReading f.terms.packets p (Some info) r l
-    reading = held-reading f r l info t.fed held goes
-
-    h : bucket_for f info < buckets_of f.terms
-    h = some-bucket f lanes v m r l info t
-
-    few : length p.packets + 1 ≤ f.terms.packets
-    few = sent-few f lanes v m r l info t reading
-
-    sent : f.sent ≡ length p.packets
-    sent = sent-is f p.packets t.dealt
-
-    told : story f' (p.packets ++ info ∷ []) ≡ ss ++ Sends (parcel_of f.terms info) ∷ []
-    told = told-packet f.terms p.packets f.journal.entries info t.within
-
-    nothing : (f.proposals ≡ []) × (here f.sent f.orders ≡ [])
-    nothing = none_waits f d
-
-  -- what may be sent
-
-  legal-posted : (f : Face) (ss : List Step) (k : ℕ) → IsDealt f ss → f.ends ≡ 0 → Legal (stream k (posted f ss))
-  legal-posted f ss k d e = subst (λ (n : ℕ). Legal (stream k (dispatched f.terms.start.owners ss ++ ends n))) (sym e) (subst (λ (z : List Post). Legal (stream k z)) (sym (append-nil (dispatched f.terms.start.owners ss))) (d.told.desk.legal k))
-
-  pub can-packet : (f : Face) (lanes : List LaneEye) (v : ShelfEye) (m : LoadEye) (r : Reading) (l : Option (List ℕ)) (info : PacketInfo) → Tied packets p f lanes v m r l → f.held ≡ Some info → f.end ≡ None → owner_for f info < cores_of f.terms → CanSend packets lanes (owner_for f info) (Packet (cell_of f info))
-  can-packet f lanes v m r l info t held goes inside =
-      let reading = held-reading f r l info t.fed held goes in let h = some-bucket f lanes v m r l info t in let none = open-ends f lanes v m r l t goes in
-      can-send packets f (story f p.packets) lanes (owner_for f info) (Packet (cell_of f info)) t.sent
-      (subst (λ (z : List Post). Legal (stream (owner_for f info) z)) (packet-posted f (story f p.packets) info t.dealt h none)
-      (legal-posted (with_packet f info) (story f p.packets ++ Sends (parcel_of f.terms info) ∷ []) (owner_for f info)
-      (dealt-send f (story f p.packets) info t.dealt h inside (let e = sent-is f p.packets t.dealt in let w = sent-few f lanes v m r l info t reading in let s = t.sound.packets in omega arith) (t.sound.cost info)) none))
-      (packet-carried f lanes v m r l info t reading h)
-
-  pub can-mark : (f : Face) (lanes : List LaneEye) (v : ShelfEye) (m : LoadEye) (r : Reading) (l : Option (List ℕ)) (a : Ask) → Tied packets p f lanes v m r l → due_now f ≡ TryDue a → ask_bucket a < buckets_of f.terms → ask_to a < cores_of f.terms → IsDecided f a (Moved (count_at f (ask_bucket a)))
-      → CanSend packets lanes (owner_at f (ask_bucket a)) (Packet (mark_of f (ask_bucket a)))
-  can-mark f lanes v m r l a t d h to is =
-      let none = no-ends f lanes v m r l t (λ e. not_packet a (sym d ∙ e)) in let o = Moved (count_at f (ask_bucket a)) in let ss = story f p.packets in
-      can-send packets f ss lanes (owner_at f (ask_bucket a)) (Packet (mark_of f (ask_bucket a))) t.sent
-      (subst (λ (z : List Post). Legal (stream (owner_at f (ask_bucket a)) z))
-      (ap (λ (z : List Post). z ++ ends f.ends) (dispatched-push f.terms.start.owners ss (Tries a o) ∙ ap (λ (c : ℕ). dispatched f.terms.start.owners ss ++ mark_post c (ask_bucket a) (count_at f (ask_bucket a)) ∷ []) (sym (t.dealt.owners (ask_bucket a) h))) ∙ one-more (dispatched f.terms.start.owners ss) f.ends _ none)
-      (legal-posted (decided f (ask_bucket a) (ask_to a) o) (ss ++ Tries a o ∷ []) (owner_at f (ask_bucket a)) (dealt-decided f ss a o t.dealt h to is) none))
-      (h, tt)
-
-  pub can-end : (f : Face) (lanes : List LaneEye) (v : ShelfEye) (m : LoadEye) (r : Reading) (l : Option (List ℕ)) → Tied packets p f lanes v m r l → CanSend packets lanes f.ends Close
-  can-end f lanes v m r l t = can-send packets f (story f p.packets) lanes f.ends Close t.sent (legal-end f.terms.start.owners _ _ (dispatched f.terms.start.owners (story f p.packets)) f.ends t.dealt.told) tt
-
-  -- the lanes after an End
-  pub lanes-end : (f : Face) (lanes : List LaneEye) (ss : List Step) → AreLanesOf packets f ss lanes → AreLanesOf packets (framed f f.held f.spare f.end (f.ends + 1)) ss (changed_at f.ends (sent_on Close) lanes)
-  lanes-end f lanes ss a = lanes-push packets f (framed f f.held f.spare f.end (f.ends + 1)) ss ss lanes f.ends Close a refl (ends-more (dispatched f.terms.start.owners ss) f.ends) tt (λ items w. w) tt
-
-  pub lanes-framed : (f : Face) (h : Option PacketInfo) (b : Bool) (e : Option DispatcherEnd) (lanes : List LaneEye) (ss : List Step) → AreLanesOf packets f ss lanes → AreLanesOf packets (framed f h b e f.ends) ss lanes
-  lanes-framed f h b e lanes ss a = lanes-same packets f (framed f h b e f.ends) ss ss lanes a refl refl refl

@@ -15,7 +15,7 @@ pub record IsPolicyOf (o : OptionsView) (stated : Stated) (proposals : Stated �
 
 -- the table, the loads and the policy are for the cores and buckets of the run, the policy proposes what that of its name does, and there is room for all proposals of a round
 pub record IsFit {B : Type 0} (stated : B → Stated) (proposals : Stated → LoadsView → List ℕ → ℕ → List Proposal) (s : State B) : Type 0 where
-  pub cores : s.desk.table.cores ≡ s.journal.start.cores
+  pub cores : s.routing.table.cores ≡ s.journal.start.cores
   pub bases : length s.rounds.loads.base ≡ s.journal.start.cores
   pub policy_cores : (stated s.rounds.policy).cores ≡ s.journal.start.cores
   pub policy_buckets : (stated s.rounds.policy).buckets ≡ length s.journal.start.owners

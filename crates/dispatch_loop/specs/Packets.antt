@@ -14,7 +14,7 @@ abbrev pub ArePackets : ℕ → List ℕ → List PacketInfo → Type 0
 ArePackets limit bytes packets = (records : List Captured) × (ending : Ending) × Reads bytes records ending × (packets ≡ take limit (map packet_of records))
 
 -- an answer of the reader, with its record's packet
-abbrev pub packets_in : Result (Option Captured) ReadError → Result (Option PacketInfo) ReadError
-packets_in (Ok None) = Ok None
-packets_in (Ok (Some r)) = Ok (Some (packet_of r))
-packets_in (Err e) = Err e
+abbrev pub packet_answer : Result (Option Captured) ReadError → Result (Option PacketInfo) ReadError
+packet_answer (Ok None) = Ok None
+packet_answer (Ok (Some r)) = Ok (Some (packet_of r))
+packet_answer (Err e) = Err e

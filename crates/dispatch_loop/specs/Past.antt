@@ -14,7 +14,7 @@ use Rattle.indirection.specs.Story.{Parcel, Step, told}
 use Rattle.dispatch_loop.specs.declared.dispatcher_end.DispatcherEnd.{DispatcherEnd}
 use Rattle.dispatch_loop.specs.declared.dispatcher_end.DispatcherEnd.TheVariants.{AtEnd, Refused, TooMany}
 use Rattle.dispatch_loop.specs.Terms.{Terms, buckets_of}
-use Rattle.dispatch_loop.specs.Face.{Face}
+use Rattle.dispatch_loop.specs.DispatcherState.{DispatcherState}
 use Rattle.dispatch_loop.specs.Packets.{packet_of, ArePackets}
 use Rattle.dispatch_loop.specs.Stops.{StopsBy}
 
@@ -40,7 +40,7 @@ abbrev pub parcels : Terms → List PacketInfo → List Parcel
 parcels t ps = map (parcel_of t) ps
 
 -- the packets that were sent and the journal as one list of steps
-abbrev pub story : Face → List PacketInfo → List Step
+abbrev pub story : DispatcherState → List PacketInfo → List Step
 story f ps = told 0 (parcels f.terms ps) f.journal.entries
 
 abbrev pub held_list : Option PacketInfo → List PacketInfo

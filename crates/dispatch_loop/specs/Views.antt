@@ -10,7 +10,7 @@ use Rattle.dispatch_loop.specs.declared.asked.Asked.TheVariants.{Proposal, Order
 use Rattle.dispatch_loop.specs.declared.limits.TheConstants.{MOST_LIMIT, MOST_ORDERS}
 use Rattle.dispatch_loop.specs.Asked.{ask_of}
 use Rattle.dispatch_loop.specs.declared.state.State.{State}
-use Rattle.dispatch_loop.specs.Face.{DispatcherView, Face, face_by}
+use Rattle.dispatch_loop.specs.DispatcherState.{DispatcherView, DispatcherState, dispatcher_state_by}
 use Rattle.dispatch_loop.specs.Asks.{RiseFrom}
 
 abbrev pub is_some : {A : Type 0} → Option A → Bool
@@ -26,11 +26,11 @@ view_of s = record {
   limit = s.rounds.limit;
   policy = s.rounds.name;
   packets = s.packets;
-  owners = s.desk.table.owners;
-  starts = s.desk.starts.items;
-  counts = s.desk.counts.items;
-  sent = s.desk.sent;
-  sent_to = s.desk.sent_to.items;
+  owners = s.routing.table.owners;
+  starts = s.routing.starts.items;
+  counts = s.routing.counts.items;
+  sent = s.routing.sent;
+  sent_to = s.routing.sent_to.items;
   loads = s.rounds.loads.bucket;
   since = s.rounds.since;
   proposals = drop s.rounds.tried s.rounds.proposals.items;
@@ -43,16 +43,16 @@ view_of s = record {
   ends = s.ends;
 }
 
--- its face, by what a packet costs under its work
-abbrev pub face_of : {B : Type 0} → (PacketInfo → ℕ) → State B → Face
-face_of cost s = face_by cost (view_of s)
+-- its state, by what a packet costs under its work
+abbrev pub dispatcher_state : {B : Type 0} → (PacketInfo → ℕ) → State B → DispatcherState
+dispatcher_state cost s = dispatcher_state_by cost (view_of s)
 
 -- what a round of this dispatcher weighs is within the limits
 pub record CanWeigh {B : Type 0} (s : State B) : Type 0 where
-  pub cores_wide : length s.desk.sent_to.items ≡ s.journal.start.cores
-  pub owners_wide : length s.desk.table.owners ≡ length s.journal.start.owners
+  pub cores_wide : length s.routing.sent_to.items ≡ s.journal.start.cores
+  pub owners_wide : length s.routing.table.owners ≡ length s.journal.start.owners
   pub loads_wide : length s.rounds.loads.bucket ≡ length s.journal.start.owners
-  pub sent : (c : ℕ) → slice_index s.desk.sent_to.items c ≤ MOST_COST * MOST_PACKETS
+  pub sent : (c : ℕ) → slice_index s.routing.sent_to.items c ≤ MOST_COST * MOST_PACKETS
   pub loads : (b : ℕ) → slice_index s.rounds.loads.bucket b ≤ MOST_COST * MOST_PACKETS
   pub limit : s.rounds.limit ≤ MOST_LIMIT
   pub cores : s.journal.start.cores ≤ MOST_CORES
@@ -60,7 +60,7 @@ pub record CanWeigh {B : Type 0} (s : State B) : Type 0 where
 
 -- the positions of the orders that weren't tried yet rise, from this one on
 abbrev pub CanAsk : {B : Type 0} → State B → Type 0
-CanAsk s = RiseFrom s.desk.sent (drop s.orders.tried s.orders.moves.items)
+CanAsk s = RiseFrom s.routing.sent (drop s.orders.tried s.orders.moves.items)
 
 -- what came of it can be written into the journal
 abbrev pub CanNote : {B : Type 0} → State B → Asked → Type 0
@@ -72,22 +72,22 @@ pub record CanTry {B : Type 0} (s : State B) (a : Asked) (n w : ℕ) : Type 0 wh
   pub note : CanNote s a
   pub bucket : ask_bucket (ask_of 0 a) < length s.journal.start.owners
   pub to : ask_to (ask_of 0 a) < s.journal.start.cores
-  pub owners_wide : length s.desk.table.owners ≡ length s.journal.start.owners
-  pub starts_wide : length s.desk.starts.items ≡ length s.journal.start.owners
-  pub counts_wide : length s.desk.counts.items ≡ length s.journal.start.owners
+  pub owners_wide : length s.routing.table.owners ≡ length s.journal.start.owners
+  pub starts_wide : length s.routing.starts.items ≡ length s.journal.start.owners
+  pub counts_wide : length s.routing.counts.items ≡ length s.journal.start.owners
   pub lanes : n ≡ s.journal.start.cores
   pub words : w ≡ length s.journal.start.owners
 
 -- one more packet can be counted, and there is a lane for each core
 pub record CanCount {B : Type 0} (s : State B) (n : ℕ) : Type 0 where
-  pub owners_wide : length s.desk.table.owners ≡ length s.journal.start.owners
-  pub starts_wide : length s.desk.starts.items ≡ length s.journal.start.owners
-  pub counts_wide : length s.desk.counts.items ≡ length s.journal.start.owners
-  pub cores_wide : length s.desk.sent_to.items ≡ s.journal.start.cores
+  pub owners_wide : length s.routing.table.owners ≡ length s.journal.start.owners
+  pub starts_wide : length s.routing.starts.items ≡ length s.journal.start.owners
+  pub counts_wide : length s.routing.counts.items ≡ length s.journal.start.owners
+  pub cores_wide : length s.routing.sent_to.items ≡ s.journal.start.cores
   pub loads_wide : length s.rounds.loads.bucket ≡ length s.journal.start.owners
   pub lanes : n ≡ s.journal.start.cores
-  pub counts : (b : ℕ) → slice_index s.desk.counts.items b ≤ s.desk.sent
-  pub sent_to : (c : ℕ) → slice_index s.desk.sent_to.items c ≤ MOST_COST * s.desk.sent
+  pub counts : (b : ℕ) → slice_index s.routing.counts.items b ≤ s.routing.sent
+  pub sent_to : (c : ℕ) → slice_index s.routing.sent_to.items c ≤ MOST_COST * s.routing.sent
   pub loads : (b : ℕ) → slice_index s.rounds.loads.bucket b ≤ MOST_COST * s.rounds.since
-  pub since : s.rounds.since ≤ s.desk.sent
-  pub sent : s.desk.sent < MOST_PACKETS
+  pub since : s.rounds.since ≤ s.routing.sent
+  pub sent : s.routing.sent < MOST_PACKETS

@@ -1,18 +1,18 @@
 ghost use Rattle.std.specs.Prelude.{◌≡◌, ℕ, map, IfOk, Option, List, []};
 ghost use Rattle.pcap_reader.specs.Reading.{Reading};
-ghost use Rattle.core_queue.specs.declared.eye.LaneEye.{LaneEye};
-ghost use Rattle.handover_words.specs.declared.eye.ShelfEye.{ShelfEye};
-ghost use Rattle.load_meter.specs.declared.eye.LoadEye.{LoadEye};
+ghost use Rattle.core_queue.specs.declared.history.LaneHistory.{LaneHistory};
+ghost use Rattle.handover_words.specs.declared.history.ShelfHistory.{ShelfHistory};
+ghost use Rattle.load_meter.specs.declared.history.LoadHistory.{LoadHistory};
 ghost use Rattle.packet_fields.specs.declared.packet.PacketInfo.{PacketInfo};
 ghost use Rattle.dispatch_loop.specs.Accepted.{IsAccepted};
 ghost use Rattle.dispatch_loop.specs.Terms.{terms_of};
 ghost use Rattle.dispatch_loop.specs.Past.{past};
-ghost use Rattle.dispatch_loop.specs.Face.{face_by};
-ghost use Rattle.dispatch_loop.specs.Scene.{scene, outs};
+ghost use Rattle.dispatch_loop.specs.DispatcherState.{dispatcher_state_by};
+ghost use Rattle.dispatch_loop.specs.DispatcherSnapshot.{dispatcher_with};
 ghost use Rattle.dispatch_loop.specs.Tied.{Tied};
 ghost use Rattle.dispatch_loop.specs.Rules.{IsTurn, OnlyMeets};
 ghost use Rattle.dispatch_loop.specs.Stays.{StaysTied, IsTied};
-ghost use Rattle.dispatch_loop.specs.Fresh.{fresh_face, AreFresh};
+ghost use Rattle.dispatch_loop.specs.Fresh.{fresh_dispatcher_state, AreFresh};
 ghost use Rattle.dispatch_loop.specs.Fit.{IsPolicyOf};
 
 use crate::state::State;
@@ -41,7 +41,7 @@ pub struct Dispatcher<W: FlowWork, B: Policy> {
 }
 
 impl<W: FlowWork, B: Policy> Model for Dispatcher<W, B> {
-    ghost use Rattle.dispatch_loop.specs.Face.{DispatcherView};
+    ghost use Rattle.dispatch_loop.specs.DispatcherState.{DispatcherView};
     ghost use Rattle.dispatch_loop.specs.Sends.{IsLoneLink};
     ghost use Rattle.dispatch_loop.specs.Views.{view_of};
     ghost use Rattle.dispatch_loop.specs.Fit.{IsFit};
@@ -60,9 +60,9 @@ impl<W: FlowWork, B: Policy> Dispatcher<W, B> {
     pub fn new(alloc: Global, options: &Options, policy: B) -> Result<Dispatcher<W, B>, NoMemory>
         requires accepted { IsAccepted options.now }
         requires policy { IsPolicyOf options.now (B.stated policy) B.proposals }
-        ensures fresh { IfOk result (λ d. face_by W.cost_of d ≡ fresh_face (terms_of W.cost_of options.now)) }
-        ensures tied { IfOk result (λ d. (packets : Option (List PacketInfo)) (bytes : Option (List ℕ)) (lanes : List LaneEye) (shelf : ShelfEye) (meter : LoadEye) (reader : Reading) (left : Option (List ℕ))
-            → AreFresh packets bytes (terms_of W.cost_of options.now) lanes shelf meter reader left → Tied packets (past bytes []) (face_by W.cost_of d) lanes shelf meter reader left) }
+        ensures fresh { IfOk result (λ d. dispatcher_state_by W.cost_of d ≡ fresh_dispatcher_state (terms_of W.cost_of options.now)) }
+        ensures tied { IfOk result (λ d. (packets : Option (List PacketInfo)) (bytes : Option (List ℕ)) (lanes : List LaneHistory) (shelf : ShelfHistory) (meter : LoadHistory) (reader : Reading) (left : Option (List ℕ))
+            → AreFresh packets bytes (terms_of W.cost_of options.now) lanes shelf meter reader left → Tied packets (past bytes []) (dispatcher_state_by W.cost_of d) lanes shelf meter reader left) }
     {
         let state = State::new(alloc, options, policy)?;
         Ok(Dispatcher {
@@ -94,11 +94,11 @@ impl<W: FlowWork, B: Policy> Dispatcher<W, B> {
         pool: &mut P,
         meter: &mut M,
     ) -> DispatcherTurn
-        requires { IsTied N.packets (scene (face_by W.cost_of self.old) (outs (map LO.eye lanes.old) (map LO.now lanes.old) (P.eye pool.old) (P.now pool.old)) (H.eye shelf.old) (H.now shelf.old) (M.eye meter.old) (M.now meter.old) reader.old (S.left source.old) (S.faults source.old)) }
-        ensures tied { StaysTied N.packets result (scene (face_by W.cost_of self.old) (outs (map LO.eye lanes.old) (map LO.now lanes.old) (P.eye pool.old) (P.now pool.old)) (H.eye shelf.old) (H.now shelf.old) (M.eye meter.old) (M.now meter.old) reader.old (S.left source.old) (S.faults source.old)) (scene (face_by W.cost_of self.new) (outs (map LO.eye lanes.new) (map LO.now lanes.new) (P.eye pool.new) (P.now pool.new)) (H.eye shelf.new) (H.now shelf.new) (M.eye meter.new) (M.now meter.new) reader.new (S.left source.new) (S.faults source.new)) }
-        ensures rule { IsTurn (scene (face_by W.cost_of self.old) (outs (map LO.eye lanes.old) (map LO.now lanes.old) (P.eye pool.old) (P.now pool.old)) (H.eye shelf.old) (H.now shelf.old) (M.eye meter.old) (M.now meter.old) reader.old (S.left source.old) (S.faults source.old)) result (scene (face_by W.cost_of self.new) (outs (map LO.eye lanes.new) (map LO.now lanes.new) (P.eye pool.new) (P.now pool.new)) (H.eye shelf.new) (H.now shelf.new) (M.eye meter.new) (M.now meter.new) reader.new (S.left source.new) (S.faults source.new)) }
+        requires { IsTied N.packets (dispatcher_with LO.LaneEnd P.Pool H.Shelf M.LoadEnd S.Source (dispatcher_state_by W.cost_of self.old) lanes.old pool.old shelf.old meter.old reader.old source.old) }
+        ensures tied { StaysTied N.packets result (dispatcher_with LO.LaneEnd P.Pool H.Shelf M.LoadEnd S.Source (dispatcher_state_by W.cost_of self.old) lanes.old pool.old shelf.old meter.old reader.old source.old) (dispatcher_with LO.LaneEnd P.Pool H.Shelf M.LoadEnd S.Source (dispatcher_state_by W.cost_of self.new) lanes.new pool.new shelf.new meter.new reader.new source.new) }
+        ensures rule { IsTurn (dispatcher_with LO.LaneEnd P.Pool H.Shelf M.LoadEnd S.Source (dispatcher_state_by W.cost_of self.old) lanes.old pool.old shelf.old meter.old reader.old source.old) result (dispatcher_with LO.LaneEnd P.Pool H.Shelf M.LoadEnd S.Source (dispatcher_state_by W.cost_of self.new) lanes.new pool.new shelf.new meter.new reader.new source.new) }
         ensures homes { (map LO.home lanes.new ≡ map LO.home lanes.old) × (P.home pool.new ≡ P.home pool.old) × (H.home shelf.new ≡ H.home shelf.old) × (M.home meter.new ≡ M.home meter.old) }
-        ensures shelf { OnlyMeets (H.eye shelf.old) (H.eye shelf.new) }
+        ensures shelf { OnlyMeets (H.history shelf.old) (H.history shelf.new) }
         ensures origin { S.origin source.new ≡ S.origin source.old }
     {
         turn_of::<N, W, B, S, LO, T, H, P, M>(

@@ -2,15 +2,15 @@
 ghost use Rattle.std.specs.Prelude.{◌≡◌, ℕ, List, Option, Some, false};
 ghost use Rattle.packet_fields.specs.declared.packet.PacketInfo.{PacketInfo};
 ghost use Rattle.pcap_reader.specs.Reading.{Reading};
-ghost use Rattle.core_queue.specs.declared.eye.LaneEye.{LaneEye};
-ghost use Rattle.handover_words.specs.declared.eye.ShelfEye.{ShelfEye};
-ghost use Rattle.load_meter.specs.declared.eye.LoadEye.{LoadEye};
+ghost use Rattle.core_queue.specs.declared.history.LaneHistory.{LaneHistory};
+ghost use Rattle.handover_words.specs.declared.history.ShelfHistory.{ShelfHistory};
+ghost use Rattle.load_meter.specs.declared.history.LoadHistory.{LoadHistory};
 ghost use Rattle.dispatch_loop.specs.declared.dispatcher_end.DispatcherEnd.TheVariants.{AtEnd};
 ghost use Rattle.dispatch_loop.specs.Terms.{cores_of};
-ghost use Rattle.dispatch_loop.specs.Face.{Face};
+ghost use Rattle.dispatch_loop.specs.DispatcherState.{DispatcherState};
 ghost use Rattle.dispatch_loop.specs.Packets.{ArePackets};
 ghost use Rattle.dispatch_loop.specs.Past.{Past};
-ghost use Rattle.dispatch_loop.specs.Scene.{Scene};
+ghost use Rattle.dispatch_loop.specs.DispatcherSnapshot.{DispatcherSnapshot};
 ghost use Rattle.dispatch_loop.specs.Steps.{TellsOn, SendsOn};
 ghost use Rattle.dispatch_loop.specs.declared.dispatcher_turn.DispatcherTurn.{DispatcherTurn};
 ghost use Rattle.dispatch_loop.specs.Tied.{Tied};
@@ -32,25 +32,25 @@ pub fn captures_have_one_list_of_packets()
 /// A dispatcher that got to the end of a whole capture and wasn't short of memory leaves a lawful
 /// journal of that capture's packets, and sent each core its stream by that journal.
 pub fn finished_dispatchers()
-    ensures { (packets : Option (List PacketInfo)) (p : Past) (f : Face) (lanes : List LaneEye) (shelf : ShelfEye) (meter : LoadEye) (reader : Reading) (left : Option (List ℕ)) → Tied packets p f lanes shelf meter reader left → f.end ≡ Some AtEnd → f.ends ≡ cores_of f.terms → f.short ≡ false → IsWhole p f lanes left }
+    ensures { (packets : Option (List PacketInfo)) (p : Past) (f : DispatcherState) (lanes : List LaneHistory) (shelf : ShelfHistory) (meter : LoadHistory) (reader : Reading) (left : Option (List ℕ)) → Tied packets p f lanes shelf meter reader left → f.end ≡ Some AtEnd → f.ends ≡ cores_of f.terms → f.short ≡ false → IsWhole p f lanes left }
 {}
 
 /// Behind a turn of a dispatcher the story of its run goes on with what its rule did: a round by
 /// the loads that were read, a try with its outcome, a packet, or nothing.
 pub fn stories_go_on_by_the_rules<W: FlowWork>()
-    ensures { (packets : Option (List PacketInfo)) (turn : DispatcherTurn) (s t : Scene (TableOf W.State)) → TellsOn packets turn s t }
+    ensures { (packets : Option (List PacketInfo)) (turn : DispatcherTurn) (s t : DispatcherSnapshot (TableOf W.State)) → TellsOn packets turn s t }
 {}
 
 /// A dispatcher stays tied while others take from its lanes, claim and put back tables, and note
 /// on the meter.
 pub fn dispatchers_bear_the_workers()
-    ensures { (packets : Option (List PacketInfo)) (p : Past) (f : Face) (lanes lanes' : List LaneEye) (shelf shelf' : ShelfEye) (meter meter' : LoadEye) (reader : Reading) (left : Option (List ℕ)) → Tied packets p f lanes shelf meter reader left → IsBorne lanes lanes' shelf shelf' meter meter' → Tied packets p f lanes' shelf' meter' reader left }
+    ensures { (packets : Option (List PacketInfo)) (p : Past) (f : DispatcherState) (lanes lanes' : List LaneHistory) (shelf shelf' : ShelfHistory) (meter meter' : LoadHistory) (reader : Reading) (left : Option (List ℕ)) → Tied packets p f lanes shelf meter reader left → IsBorne lanes lanes' shelf shelf' meter meter' → Tied packets p f lanes' shelf' meter' reader left }
 {}
 
 /// The packet by which a turn's list of sent packets grew is the one that its rule sent, and there
 /// is none but after [`Sent`](crate::DispatcherTurn::Sent).
 pub fn sent_packets_are_the_rules<W: FlowWork>()
-    ensures { (packets : Option (List PacketInfo)) (turn : DispatcherTurn) (s t : Scene (TableOf W.State)) → SendsOn packets turn s t }
+    ensures { (packets : Option (List PacketInfo)) (turn : DispatcherTurn) (s t : DispatcherSnapshot (TableOf W.State)) → SendsOn packets turn s t }
 {}
 
 /// Each default is in its range: options for which no number, key, table or order is given are

@@ -1,12 +1,13 @@
 //! Reading, sending and moving: the dispatcher of a run, and the options of a run.
 //!
-//! [`Dispatcher`] reads the packets of a capture, sends each to the core that owns its bucket, makes
-//! rounds of balancing, and moves buckets. It does one thing a turn, over whichever ends. Contracts
-//! see it as `Face` (`specs/Face.antt`). `IsTurn` (`specs/Rules.antt`) says which rule a turn did, by
-//! what its ends answered; `Tied` (`specs/Tied.antt`) says what holds between turns: each lane was
-//! sent the stream of its core, and the journal is lawful so far. The packets that were sent are held
-//! by nobody: clauses speak of each list of packets with which all goes. The laws say what a whole run
-//! leaves, how its story grows, and that others may use the ends meanwhile.
+//! [`Dispatcher`] reads the packets of a capture, sends each to the core that owns its bucket,
+//! makes rounds of balancing, and moves buckets. It does one thing a turn, over whichever ends.
+//! Contracts see it as `DispatcherState` (`specs/DispatcherState.antt`). `IsTurn`
+//! (`specs/Rules.antt`) says which rule a turn did, by what its ends answered; `Tied`
+//! (`specs/Tied.antt`) says what holds between turns: each lane was sent the stream of its core,
+//! and the journal is lawful so far. The packets that were sent are held by nobody: clauses speak
+//! of each list of packets with which all goes. The laws say what a whole run leaves, how its story
+//! grows, and that others may use the ends meanwhile.
 //!
 //! The packets of a capture under a limit are `ArePackets` (`specs/Packets.antt`), and
 //! [`next_packet`] reads them one by one.
@@ -15,12 +16,15 @@
 //! orders as a list. `IsAccepted` (`specs/Accepted.antt`) says that every field is in its range:
 //! the reading of the command words gives no other, and each call that runs with options can
 //! require it. The law `defaults_are_accepted` says that the defaults are in those ranges.
+//!
+//! Read `options.rt` with `specs/Accepted.antt`; `specs/Packets.antt` and `packets.rt`; then, in
+//! `specs/`, DispatcherState, Past, Tied, Does and Rules, with `dispatcher_turn.rt` and
+//! `dispatcher.rt`; then Steps, Finished and `laws.rt`. The other files are parts of a turn.
 #![tactic(auto)]
 
 mod act;
 mod asked;
 mod attempt;
-mod desk;
 mod dispatcher;
 mod dispatcher_end;
 mod dispatcher_turn;
@@ -38,6 +42,7 @@ mod packets;
 mod policy;
 mod round;
 mod rounds;
+mod routing;
 mod sending;
 mod state;
 mod turn;

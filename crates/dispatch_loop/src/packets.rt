@@ -4,7 +4,7 @@ ghost use Rattle.pcap_reader.specs.Capture.{Captured};
 ghost use Rattle.pcap_reader.specs.Reading.{Proceeds};
 ghost use Rattle.pcap_reader.specs.Stream.{HasReadCause};
 ghost use Rattle.pcap_reader.specs.declared.fault.ReadError.{ReadError};
-ghost use Rattle.dispatch_loop.specs.Packets.{packets_in};
+ghost use Rattle.dispatch_loop.specs.Packets.{packet_answer};
 
 use packet_fields::{PacketInfo, fields};
 use pcap_reader::{MOST_RECORDS, Progress, ReadError, Reader};
@@ -16,7 +16,7 @@ pub fn next_packet<S: Source>(
     source: &mut S,
 ) -> Result<Option<PacketInfo>, ReadError>
     requires { reader.old.given ≤ MOST_RECORDS }
-    ensures proceeds { (answer : Result (Option Captured) ReadError) × (result ≡ packets_in answer)
+    ensures proceeds { (answer : Result (Option Captured) ReadError) × (result ≡ packet_answer answer)
         × Proceeds reader.old reader.new (S.left source.old) (S.left source.new) answer }
     ensures over { reader.old.progress ≢ Progress.Going → source.new ≡ source.old }
     ensures cause { reader.old.progress ≡ Progress.Going → HasReadCause (S.faults source.old) (S.faults source.new) result }

@@ -4,7 +4,7 @@ ghost use Rattle.balancer.specs.Moves.{AreMoves};
 ghost use Rattle.dispatch_loop.specs.Terms.{cores_of, buckets_of};
 ghost use Rattle.dispatch_loop.specs.Does.{ReadsAll, bases_of, loads_of, with_round, without_round};
 ghost use Rattle.dispatch_loop.specs.Rules.{Rounded};
-ghost use Rattle.dispatch_loop.specs.Views.{face_of, CanWeigh};
+ghost use Rattle.dispatch_loop.specs.Views.{dispatcher_state, CanWeigh};
 ghost use Rattle.dispatch_loop.specs.Fit.{IsFit};
 
 use crate::rounds::propose;
@@ -17,10 +17,10 @@ use load_meter::ReadLoad;
 // Reads the meter, and weighs the costs of what was sent to each core and isn't worked yet.
 fn weigh<M: ReadLoad>(sent_to: &[u64], loads: &mut Loads, meter: &mut M)
     requires bases { length sent_to.now ≡ length loads.old.base }
-    requires cores { length sent_to.now ≤ (M.eye meter.old).cores }
+    requires cores { length sent_to.now ≤ (M.history meter.old).cores }
     requires few { length sent_to.now ≤ MOST_CORES }
     ensures home { M.home meter.new ≡ M.home meter.old }
-    ensures weighs { (readings : List ℕ) × ReadsAll (length sent_to.now) readings (M.eye meter.old) (M.now meter.old) (M.eye meter.new) (M.now meter.new)
+    ensures weighs { (readings : List ℕ) × ReadsAll (length sent_to.now) readings (M.history meter.old) (M.now meter.old) (M.history meter.new) (M.now meter.new)
         × (loads.new ≡ record loads.old { base = bases_of sent_to.now readings }) }
 {
     for core in 0..sent_to.len() as u8 {
@@ -37,24 +37,24 @@ pub(crate) fn make_round<W: FlowWork, B: Policy, M: ReadLoad>(
 ) -> bool
     requires fit { IsFit B.stated B.proposals state.old }
     requires can { CanWeigh state.old }
-    requires cores { cores_of (face_of W.cost_of state.old).terms ≤ (M.eye meter.old).cores }
+    requires cores { cores_of (dispatcher_state W.cost_of state.old).terms ≤ (M.history meter.old).cores }
     ensures home { M.home meter.new ≡ M.home meter.old }
     ensures fit { IsFit B.stated B.proposals state.new }
     ensures spare { state.new.spare ≡ state.old.spare }
-    ensures moves { AreMoves (cores_of (face_of W.cost_of state.old).terms) (buckets_of (face_of W.cost_of state.old).terms) (face_of W.cost_of state.new).proposals }
-    ensures made { (readings : List ℕ) × ReadsAll (cores_of (face_of W.cost_of state.old).terms) readings (M.eye meter.old) (M.now meter.old) (M.eye meter.new) (M.now meter.new)
-        × (face_of W.cost_of state.new ≡ (if result then with_round (face_of W.cost_of state.old) (loads_of (face_of W.cost_of state.old) readings) else without_round (face_of W.cost_of state.old))) }
+    ensures moves { AreMoves (cores_of (dispatcher_state W.cost_of state.old).terms) (buckets_of (dispatcher_state W.cost_of state.old).terms) (dispatcher_state W.cost_of state.new).proposals }
+    ensures made { (readings : List ℕ) × ReadsAll (cores_of (dispatcher_state W.cost_of state.old).terms) readings (M.history meter.old) (M.now meter.old) (M.history meter.new) (M.now meter.new)
+        × (dispatcher_state W.cost_of state.new ≡ (if result then with_round (dispatcher_state W.cost_of state.old) (loads_of (dispatcher_state W.cost_of state.old) readings) else without_round (dispatcher_state W.cost_of state.old))) }
 {
-    weigh(&state.desk.sent_to, &mut state.rounds.loads, meter);
+    weigh(&state.routing.sent_to, &mut state.rounds.loads, meter);
     propose(
         &mut state.rounds.policy,
         &mut state.rounds.proposals,
         &state.rounds.loads,
-        &state.desk.table,
+        &state.routing.table,
         state.rounds.limit,
     );
     let noted = state.journal.push_round(
-        state.desk.sent,
+        state.routing.sent,
         &state.rounds.loads,
         &state.rounds.proposals,
     );
@@ -73,11 +73,11 @@ pub(crate) fn pass_round<W: FlowWork, B: Policy, M: ReadLoad>(
 ) -> bool
     requires fit { IsFit B.stated B.proposals state.old }
     requires can { CanWeigh state.old }
-    requires cores { cores_of (face_of W.cost_of state.old).terms ≤ (M.eye meter.old).cores }
+    requires cores { cores_of (dispatcher_state W.cost_of state.old).terms ≤ (M.history meter.old).cores }
     ensures home { M.home meter.new ≡ M.home meter.old }
     ensures fit { IsFit B.stated B.proposals state.new }
     ensures spare { state.new.spare ≡ state.old.spare }
-    ensures rounded { Rounded result (face_of W.cost_of state.old) (face_of W.cost_of state.new) (M.eye meter.old) (M.now meter.old) (M.eye meter.new) (M.now meter.new) }
+    ensures rounded { Rounded result (dispatcher_state W.cost_of state.old) (dispatcher_state W.cost_of state.new) (M.history meter.old) (M.now meter.old) (M.history meter.new) (M.now meter.new) }
 {
     if !state.rounds.is_due() {
         return false;

@@ -1,10 +1,10 @@
 // One turn.
 ghost use Rattle.std.specs.Prelude.{◌≡◌, map};
-ghost use Rattle.dispatch_loop.specs.Scene.{scene, outs};
+ghost use Rattle.dispatch_loop.specs.DispatcherSnapshot.{dispatcher_with};
 ghost use Rattle.dispatch_loop.specs.Rules.{IsTurn, OnlyMeets};
 ghost use Rattle.dispatch_loop.specs.Sends.{IsLoneLink};
 ghost use Rattle.dispatch_loop.specs.Stays.{StaysTied, IsTied};
-ghost use Rattle.dispatch_loop.specs.Views.{face_of};
+ghost use Rattle.dispatch_loop.specs.Views.{dispatcher_state};
 ghost use Rattle.dispatch_loop.specs.Fit.{IsFit};
 
 use crate::DispatcherTurn;
@@ -44,11 +44,11 @@ pub(crate) fn turn_of<
 ) -> DispatcherTurn
     requires fit { IsFit B.stated B.proposals state.old }
     requires lone { IsLoneLink state.old.spare }
-    requires tied { IsTied N.packets (scene (face_of W.cost_of state.old) (outs (map LO.eye lanes.old) (map LO.now lanes.old) (P.eye pool.old) (P.now pool.old)) (H.eye shelf.old) (H.now shelf.old) (M.eye meter.old) (M.now meter.old) reader.old (S.left source.old) (S.faults source.old)) }
-    ensures tied { StaysTied N.packets result (scene (face_of W.cost_of state.old) (outs (map LO.eye lanes.old) (map LO.now lanes.old) (P.eye pool.old) (P.now pool.old)) (H.eye shelf.old) (H.now shelf.old) (M.eye meter.old) (M.now meter.old) reader.old (S.left source.old) (S.faults source.old)) (scene (face_of W.cost_of state.new) (outs (map LO.eye lanes.new) (map LO.now lanes.new) (P.eye pool.new) (P.now pool.new)) (H.eye shelf.new) (H.now shelf.new) (M.eye meter.new) (M.now meter.new) reader.new (S.left source.new) (S.faults source.new)) }
-    ensures rule { IsTurn (scene (face_of W.cost_of state.old) (outs (map LO.eye lanes.old) (map LO.now lanes.old) (P.eye pool.old) (P.now pool.old)) (H.eye shelf.old) (H.now shelf.old) (M.eye meter.old) (M.now meter.old) reader.old (S.left source.old) (S.faults source.old)) result (scene (face_of W.cost_of state.new) (outs (map LO.eye lanes.new) (map LO.now lanes.new) (P.eye pool.new) (P.now pool.new)) (H.eye shelf.new) (H.now shelf.new) (M.eye meter.new) (M.now meter.new) reader.new (S.left source.new) (S.faults source.new)) }
+    requires tied { IsTied N.packets (dispatcher_with LO.LaneEnd P.Pool H.Shelf M.LoadEnd S.Source (dispatcher_state W.cost_of state.old) lanes.old pool.old shelf.old meter.old reader.old source.old) }
+    ensures tied { StaysTied N.packets result (dispatcher_with LO.LaneEnd P.Pool H.Shelf M.LoadEnd S.Source (dispatcher_state W.cost_of state.old) lanes.old pool.old shelf.old meter.old reader.old source.old) (dispatcher_with LO.LaneEnd P.Pool H.Shelf M.LoadEnd S.Source (dispatcher_state W.cost_of state.new) lanes.new pool.new shelf.new meter.new reader.new source.new) }
+    ensures rule { IsTurn (dispatcher_with LO.LaneEnd P.Pool H.Shelf M.LoadEnd S.Source (dispatcher_state W.cost_of state.old) lanes.old pool.old shelf.old meter.old reader.old source.old) result (dispatcher_with LO.LaneEnd P.Pool H.Shelf M.LoadEnd S.Source (dispatcher_state W.cost_of state.new) lanes.new pool.new shelf.new meter.new reader.new source.new) }
     ensures homes { (map LO.home lanes.new ≡ map LO.home lanes.old) × (P.home pool.new ≡ P.home pool.old) × (H.home shelf.new ≡ H.home shelf.old) × (M.home meter.new ≡ M.home meter.old) }
-    ensures shelf { OnlyMeets (H.eye shelf.old) (H.eye shelf.new) }
+    ensures shelf { OnlyMeets (H.history shelf.old) (H.history shelf.new) }
     ensures fit { IsFit B.stated B.proposals state.new }
     ensures lone { IsLoneLink state.new.spare }
     ensures origin { S.origin source.new ≡ S.origin source.old }

@@ -42,7 +42,7 @@ pub(crate) fn work_until(table: &mut BucketTable<Count>, done: u32)
 /// Takes the next item of one of the lanes.
 pub(crate) fn take_from<N: RunName, L: LaneIn<N>>(lanes: &mut [L], core: usize) -> Option<Item>
     requires { core < length lanes.old }
-    ensures sent { AreSentSame (map L.eye lanes.old) (map L.eye lanes.new) }
+    ensures sent { AreSentSame (map L.history lanes.old) (map L.history lanes.new) }
     ensures loose { IfSome result IsLoose }
 {
     let lane = &mut lanes[core];

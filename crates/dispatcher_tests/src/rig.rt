@@ -38,14 +38,14 @@ pub(crate) struct Rig {
 
 impl Model for Rig {
     ghost use Rattle.flow_work.specs.Costs.{one};
-    ghost use Rattle.dispatch_loop.specs.Face.{face_by};
+    ghost use Rattle.dispatch_loop.specs.DispatcherState.{dispatcher_state_by};
     ghost use Rattle.dispatcher_tests.specs.Rig.{IsRig};
 
     ghost Value = { Unit {0} };
 
     ghost view = { λ r. tt };
 
-    ghost invariant = { λ r. IsRig (face_by one r.dispatcher) r.lanes r.shelf r.meter r.reader r.source r.held };
+    ghost invariant = { λ r. IsRig (dispatcher_state_by one r.dispatcher) r.lanes r.shelf r.meter r.reader r.source r.held };
 }
 
 impl Rig {

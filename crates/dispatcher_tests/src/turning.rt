@@ -1,8 +1,8 @@
 // Turns in a row, over whichever ends.
 ghost use Rattle.std.specs.Prelude.{map};
-ghost use Rattle.dispatch_loop.specs.Face.{face_by};
+ghost use Rattle.dispatch_loop.specs.DispatcherState.{dispatcher_state_by};
 ghost use Rattle.dispatch_loop.specs.Rules.{OnlyMeets};
-ghost use Rattle.dispatch_loop.specs.Scene.{scene, outs};
+ghost use Rattle.dispatch_loop.specs.DispatcherSnapshot.{dispatcher_with};
 ghost use Rattle.dispatch_loop.specs.Stays.{IsTied};
 
 use balancer::Policy;
@@ -39,9 +39,9 @@ pub(crate) fn finish<
     meter: &mut M,
     most: u32,
 ) -> Option<DispatcherEnd>
-    requires tied { IsTied N.packets (scene (face_by W.cost_of dispatcher.old) (outs (map LO.eye lanes.old) (map LO.now lanes.old) (P.eye pool.old) (P.now pool.old)) (H.eye shelf.old) (H.now shelf.old) (M.eye meter.old) (M.now meter.old) reader.old (S.left source.old) (S.faults source.old)) }
-    ensures tied { IsTied N.packets (scene (face_by W.cost_of dispatcher.new) (outs (map LO.eye lanes.new) (map LO.now lanes.new) (P.eye pool.new) (P.now pool.new)) (H.eye shelf.new) (H.now shelf.new) (M.eye meter.new) (M.now meter.new) reader.new (S.left source.new) (S.faults source.new)) }
-    ensures shelf { OnlyMeets (H.eye shelf.old) (H.eye shelf.new) }
+    requires tied { IsTied N.packets (dispatcher_with LO.LaneEnd P.Pool H.Shelf M.LoadEnd S.Source (dispatcher_state_by W.cost_of dispatcher.old) lanes.old pool.old shelf.old meter.old reader.old source.old) }
+    ensures tied { IsTied N.packets (dispatcher_with LO.LaneEnd P.Pool H.Shelf M.LoadEnd S.Source (dispatcher_state_by W.cost_of dispatcher.new) lanes.new pool.new shelf.new meter.new reader.new source.new) }
+    ensures shelf { OnlyMeets (H.history shelf.old) (H.history shelf.new) }
 {
     for _turn in 0..most {
         let turn = dispatcher.turn::<N, S, LO, T, H, P, M>(

@@ -1,3 +1,5 @@
+-- Read Report, then Tables and Cause; JournalText and JournalNumbers stand by themselves.
+-- JournalLine serves proofs of bodies alone.
 pub mod Cause
 pub mod JournalLine
 pub mod JournalNumbers

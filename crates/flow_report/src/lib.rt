@@ -4,6 +4,10 @@
 //! and knows no bucket. [`report`] writes it from tables that together stand for the packets.
 //! [`journal_text`] writes a journal in lines of words (`specs/JournalText.antt`), which tell all
 //! of it ([`journal_texts_tell_all`]).
+//!
+//! Read `specs/Report.antt` and `specs/Tables.antt`, then `fault.rt`, `write.rt` and `laws.rt`; for
+//! the journal `specs/JournalText.antt` and `specs/JournalNumbers.antt`, then `journal.rt` and
+//! `journal_laws.rt`.
 #![tactic(auto)]
 
 mod fault;

@@ -4,6 +4,10 @@
 //! a state prints. What it answers depends on its type alone, so a table of flows stands for a
 //! list of packets by the type of its work. There are four, which [`WorkName`] names, and for
 //! each a law says in words on the whole list what its fold comes to.
+//!
+//! Read `work.rt`, the trait, then one work with its definition, as `specs/Count.antt` and
+//! `count.rt`: the other three are like it. `laws.rt` has the law of each, and `specs/Flow.antt`
+//! and `specs/Costs.antt` are for the layers above.
 #![tactic(auto)]
 
 mod count;

@@ -18,16 +18,16 @@ pub by_take : (P : MachineView → Type 0) (m : MachineView) (c : ℕ) → is_em
     → ((q : List Item) → (core_at m c).queue ≡ End ∷ q → P (took m c (End ∷ q))) → P (step m (Take c))
 by_take P m c e item end = by_queue P m c (core_at m c).queue e item end
 
-by_hand : (P : List ℕ → Type 0) (h : Hand) (word : ℕ) → waits_for h word ≡ true → ((first : ℕ) (rest : List ℕ) → h ≡ Waiting (first ∷ rest) → word ≡ 2 * first + 1 → P (first ∷ rest)) → (parked : Hand → List ℕ) → ((places : List ℕ) → parked (Waiting places) ≡ places) → P (parked h)
-by_hand P Away word e f parked is = absurd (cc)
-by_hand P (Held a d) word e f parked is = absurd (cc)
-by_hand P (Leaving a d) word e f parked is = absurd (cc)
-by_hand P (Waiting []) word e f parked is = absurd (cc)
-by_hand P (Waiting (first ∷ rest)) word e f parked is = subst P (sym (is (first ∷ rest))) (f first rest refl (eqb-true word (2 * first + 1) e))
+by_hand : (P : List ℕ → Type 0) (h : Hand) (word : ℕ) → waits_for h word ≡ true → ((first : ℕ) (rest : List ℕ) → h ≡ Waiting (first ∷ rest) → word ≡ 2 * first + 1 → P (first ∷ rest)) → (waiting_places : Hand → List ℕ) → ((places : List ℕ) → waiting_places (Waiting places) ≡ places) → P (waiting_places h)
+by_hand P Away word e f waiting_places is = absurd (cc)
+by_hand P (Held a d) word e f waiting_places is = absurd (cc)
+by_hand P (Leaving a d) word e f waiting_places is = absurd (cc)
+by_hand P (Waiting []) word e f waiting_places is = absurd (cc)
+by_hand P (Waiting (first ∷ rest)) word e f waiting_places is = subst P (sym (is (first ∷ rest))) (f first rest refl (eqb-true word (2 * first + 1) e))
 
 pub by_claim : (P : MachineView → Type 0) (m : MachineView) (c b : ℕ) → waits_for (hand_at m c b) (bucket_at m b).word ≡ true
     → ((first : ℕ) (rest : List ℕ) → hand_at m c b ≡ Waiting (first ∷ rest) → (bucket_at m b).word ≡ 2 * first + 1 → P (claimed m c b (first ∷ rest))) → P (step m (Claim c b))
-by_claim P m c b e f = by_hand (λ places. P (claimed m c b places)) (hand_at m c b) (bucket_at m b).word e f Rattle.handover_core.specs.Machine.parked (λ places. refl)
+by_claim P m c b e f = by_hand (λ places. P (claimed m c b places)) (hand_at m c b) (bucket_at m b).word e f Rattle.handover_core.specs.Machine.waiting_places (λ places. refl)
 
 by_leaving : (P : MachineView → Type 0) (m : MachineView) (c b : ℕ) (h : Hand) → is_leaving h ≡ true → ((start done : ℕ) → h ≡ Leaving start done → P (released m c b (Leaving start done))) → P (released m c b h)
 by_leaving P m c b Away e f = absurd (cc)

@@ -7,10 +7,10 @@ use Rattle.handover_core.specs.declared.bucket_state.BucketState.{BucketState}
 use Rattle.handover_core.specs.declared.worker_core.WorkerCore.{WorkerCore}
 use Rattle.handover_core.specs.declared.machine.Machine.TheInside.{Inside}
 use Rattle.handover_core.specs.State.{Hand, Away, Waiting, Held, Leaving, CoreState, MachineView, blank_bucket, bucket_at, core_at, hand_at, sent_of, set_core, set_bucket, set_hand}
-use Rattle.handover_core.specs.Machine.{enabled, step, leave, has_end, parked, claimed, released, shelf_done}
+use Rattle.handover_core.specs.Machine.{enabled, step, leave, has_end, waiting_places, claimed, released, shelf_done}
 use Rattle.handover_core.specs.Bucket.{places_from, Fits, Awaits, Idle}
 use Rattle.handover_core.specs.Cores.{core_state, HaveRoom, HasRoom}
-use Rattle.handover_core.specs.Sound.{sight}
+use Rattle.handover_core.specs.Sound.{bucket_snapshot}
 use Rattle.handover_core.specs.Inside.{state_of, IsMachine}
 use Rattle.handover_core.proofs.Enabled.{is_enabled}
 use Rattle.handover_core.proofs.Cases.{hand-waits}
@@ -66,9 +66,9 @@ claim-reads i c b first count st m h e hand =
     let k : places_from first count ≡ w.0 ∷ w.1 = let x = hand ∙ w.2 in cc in
     let hd : first ≡ w.0 = head-is first count w.0 w.1 k in
     let g = m.sound.buckets.buckets b f.1 in
-    let a = waiting-home (sight v b) c w.0 w.1 w.2 w.3 g.stage g.is_in in
-    let fit = subst (λ (x : Hand). Fits (Awaits (bucket_at v b).start (sent_of v b)) ((sight v b).ended (bucket_at v b).owner) x ((sight v b).queue (bucket_at v b).owner))
-    (subst (λ (x : ℕ). hand_at v x b ≡ Waiting (places_from first count)) a.0 (sym hand)) (at_owner (sight v b) (Awaits (bucket_at v b).start (sent_of v b)) (λ x. Idle) a.1.fits) in
+    let a = waiting-home (bucket_snapshot v b) c w.0 w.1 w.2 w.3 g.stage g.is_in in
+    let fit = subst (λ (x : Hand). Fits (Awaits (bucket_at v b).start (sent_of v b)) ((bucket_snapshot v b).ended (bucket_at v b).owner) x ((bucket_snapshot v b).queue (bucket_at v b).owner))
+    (subst (λ (x : ℕ). hand_at v x b ≡ Waiting (places_from first count)) a.0 (sym hand)) (at_owner (bucket_snapshot v b) (Awaits (bucket_at v b).start (sent_of v b)) (λ x. Idle) a.1.fits) in
     let s : st ≡ bucket_at v b = read-of i.buckets.items b st blank_bucket f.1 e in
     let sh : shelf_done st.shelf ≡ (bucket_at v b).start = ap (λ (y : BucketState). shelf_done y.shelf) s ∙ ap shelf_done a.1.shelf in
     let j : count ≡ fit.0 = sym (length-places_from first count) ∙ (ap (λ (z : List ℕ). length z) fit.4 ∙ length-places_from (bucket_at v b).start fit.0) in
@@ -77,7 +77,7 @@ claim-reads i c b first count st m h e hand =
       bucket = f.1;
       head = ap (λ (z : List ℕ). slice_index z 0) k ∙ sym hd;
       done = let x = fit.3 in let y = sent_of-le v b m.sound.shaped.sent in let z = m.sound.shaped.few in let u = m.sound.shaped.sent in omega arith;
-      free = let x = (keeps-sound v (Claim c b) h m.sound).counted.cells in let y = ap (λ (z : Hand). length (parked z)) hand in let z = length-places_from first count in omega arith;
+      free = let x = (keeps-sound v (Claim c b) h m.sound).counted.cells in let y = ap (λ (z : Hand). length (waiting_places z)) hand in let z = length-places_from first count in omega arith;
       claims = let x = claims-few i m in let y = m.moves in let z = m.sound.shaped.few in let u = m.few_buckets in omega arith;
     }
 
@@ -97,7 +97,7 @@ claim-next i n c b first count done w x st su m h k is iu hand d iw e r quiet fr
     let z : core_state x ≡ set_hand (core_state w) b y = e ∙ (ap (λ (q : CoreState). set_hand (core_state w) b (if has_end q.taken then leave (Held first done) else Held first done)) (sym (front-is i c w k.core iw))
     ∙ ap (λ (q : ℕ). set_hand (core_state w) b (if has_end (core_at v c).taken then leave (Held first q) else Held first q)) g) in
     hand-next i n c b w x su y (2 * first + 2) None (i.free + count) (i.claims + 1) i.releases (step v (Claim c b)) m k.core k.bucket iw iu z r
-    (ap (λ (q : Hand). claimed v c b (parked q)) (sym hand) ∙ claimed-as v c b first count (places_from first count) k.head (length-places_from first count)) quiet fr cl re bs cs
+    (ap (λ (q : Hand). claimed v c b (waiting_places q)) (sym hand) ∙ claimed-as v c b first count (places_from first count) k.head (length-places_from first count)) quiet fr cl re bs cs
 
 pub record IsRelease (i : Inside) (c b : ℕ) : Type 0 where
   pub core : c < length i.cores.items

@@ -12,15 +12,15 @@ use Rattle.handover_core.specs.Dispatch.{kind_at}
 use Rattle.handover_core.specs.declared.post.Post.{Post}
 use Rattle.handover_core.specs.State.{Hand, Away, Waiting, Held, Leaving, CoreState, MachineView, blank_bucket, blank_core, bucket_at, core_at}
 use Rattle.handover_core.specs.declared.bucket_state.BucketState.{BucketState}
-use Rattle.handover_core.specs.Machine.{is_end, met, freed, leave, parked}
-use Rattle.handover_core.specs.Sound.{cells_in, is_mark, due}
+use Rattle.handover_core.specs.Machine.{is_end, met, freed, leave, waiting_places}
+use Rattle.handover_core.specs.Sound.{cells_in, is_mark_item, due}
 
 -- the cells of a list of items
 pub cells_of : List Item → ℕ
 cells_of xs = count_by (λ x. not (is_end x)) xs
 
 unfoldable pub waiting_in : List Hand → ℕ
-waiting_in hs = sum_by (λ h. length (parked h)) hs
+waiting_in hs = sum_by (λ h. length (waiting_places h)) hs
 
 pub cells-split : (s : CoreState) → cells_in s ≡ cells_of s.queue + waiting_in s.hands
 unfolding cells_of waiting_in
@@ -51,27 +51,27 @@ pub cells-set : (m : MachineView) (c : ℕ) (s : CoreState) → c < length m.cor
 cells-set m c s l = sum_by-set cells_in m.cores c s blank_core l
 
 -- where one hand was changed
-pub waiting-set : (hs : List Hand) (b : ℕ) (h : Hand) → b < length hs → waiting_in (set hs b h) + length (parked (get_or hs b Away)) ≡ waiting_in hs + length (parked h)
+pub waiting-set : (hs : List Hand) (b : ℕ) (h : Hand) → b < length hs → waiting_in (set hs b h) + length (waiting_places (get_or hs b Away)) ≡ waiting_in hs + length (waiting_places h)
 unfolding waiting_in
-waiting-set hs b h l = sum_by-set (λ (h : Hand). length (parked h)) hs b h Away l
+waiting-set hs b h l = sum_by-set (λ (h : Hand). length (waiting_places h)) hs b h Away l
 
-parked-leave : (h : Hand) → length (parked (leave h)) ≡ length (parked h)
-parked-leave Away = refl
-parked-leave (Waiting places) = refl
-parked-leave (Held a d) = refl
-parked-leave (Leaving a d) = refl
+waiting_places-leave : (h : Hand) → length (waiting_places (leave h)) ≡ length (waiting_places h)
+waiting_places-leave Away = refl
+waiting_places-leave (Waiting places) = refl
+waiting_places-leave (Held a d) = refl
+waiting_places-leave (Leaving a d) = refl
 
 pub waiting-leave : (hs : List Hand) → waiting_in (map leave hs) ≡ waiting_in hs
 unfolding waiting_in
 waiting-leave [] = refl
 waiting-leave (h ∷ hs) =
-    sum_by-cons (λ (h : Hand). length (parked h)) (leave h) (map leave hs)
-    ∙ (ap (λ (n : ℕ). n + sum_by (λ (h : Hand). length (parked h)) (map leave hs)) (parked-leave h)
-    ∙ (ap (λ (n : ℕ). length (parked h) + n) (waiting-leave hs)
-    ∙ sym (sum_by-cons (λ (h : Hand). length (parked h)) h hs)))
+    sum_by-cons (λ (h : Hand). length (waiting_places h)) (leave h) (map leave hs)
+    ∙ (ap (λ (n : ℕ). n + sum_by (λ (h : Hand). length (waiting_places h)) (map leave hs)) (waiting_places-leave h)
+    ∙ (ap (λ (n : ℕ). length (waiting_places h) + n) (waiting-leave hs)
+    ∙ sym (sum_by-cons (λ (h : Hand). length (waiting_places h)) h hs)))
 
 -- an item's cell stays with the core or is freed
-pub met-cells : (h : Hand) (kind : Kind) (place : ℕ) → length (parked (met h kind place)) + freed h kind ≡ length (parked h) + 1
+pub met-cells : (h : Hand) (kind : Kind) (place : ℕ) → length (waiting_places (met h kind place)) + freed h kind ≡ length (waiting_places h) + 1
 met-cells Away First place = refl
 met-cells Away Next place = refl
 met-cells Away Mark place = refl
@@ -87,21 +87,21 @@ met-cells (Leaving a d) Mark place = refl
 
 -- the marks sent after one more item
 unfoldable pub marks_of : List Post → ℕ
-marks_of ds = count_by (λ p. is_mark p.item) ds
+marks_of ds = count_by (λ p. is_mark_item p.item) ds
 
 pub marks-packet : (ds : List Post) (o s k b place : ℕ) → marks_of (ds ++ record { core = o; item = Of (kind_at s k) b place } ∷ []) ≡ marks_of ds
 unfolding marks_of
 marks-packet ds o s k b place =
-    sum_by-append (λ (p : Post). if is_mark p.item then 1 else 0) ds (record { core = o; item = Of (kind_at s k) b place } ∷ [])
-    ∙ by_test k s (λ t. count_by (λ p. is_mark p.item) ds + (0 + (if is_mark (Of (if t then First else Next) b place) then 1 else 0)) ≡ count_by (λ p. is_mark p.item) ds) (λ _. omega arith) (λ _. omega arith)
+    sum_by-append (λ (p : Post). if is_mark_item p.item then 1 else 0) ds (record { core = o; item = Of (kind_at s k) b place } ∷ [])
+    ∙ by_test k s (λ t. count_by (λ p. is_mark_item p.item) ds + (0 + (if is_mark_item (Of (if t then First else Next) b place) then 1 else 0)) ≡ count_by (λ p. is_mark_item p.item) ds) (λ _. omega arith) (λ _. omega arith)
 
 pub marks-mark : (ds : List Post) (o b place : ℕ) → marks_of (ds ++ record { core = o; item = Of Mark b place } ∷ []) ≡ marks_of ds + 1
 unfolding marks_of
-marks-mark ds o b place = let e = sum_by-append (λ (p : Post). if is_mark p.item then 1 else 0) ds (record { core = o; item = Of Mark b place } ∷ []) in e ∙ omega arith
+marks-mark ds o b place = let e = sum_by-append (λ (p : Post). if is_mark_item p.item then 1 else 0) ds (record { core = o; item = Of Mark b place } ∷ []) in e ∙ omega arith
 
 pub marks-end : (ds : List Post) (o : ℕ) → marks_of (ds ++ record { core = o; item = End } ∷ []) ≡ marks_of ds
 unfolding marks_of
-marks-end ds o = let e = sum_by-append (λ (p : Post). if is_mark p.item then 1 else 0) ds (record { core = o; item = End } ∷ []) in e ∙ omega arith
+marks-end ds o = let e = sum_by-append (λ (p : Post). if is_mark_item p.item then 1 else 0) ds (record { core = o; item = End } ∷ []) in e ∙ omega arith
 
 -- how many claims and releases are due
 

@@ -10,10 +10,10 @@ use Rattle.handover_core.specs.declared.event.Event.TheVariants.{Send, Look, Mov
 use Rattle.handover_core.specs.Dispatch.{kind_at}
 use Rattle.handover_core.specs.State.{Hand, Away, Held, Leaving, CoreState, MachineView, bucket_at, core_at, hand_at, sent_of, set_bucket, set_hand}
 use Rattle.handover_core.specs.declared.bucket_state.BucketState.{BucketState}
-use Rattle.handover_core.specs.Machine.{has_end, step, post, met, freed, leave, parked, claimed_hand}
+use Rattle.handover_core.specs.Machine.{has_end, step, post, met, freed, leave, waiting_places, claimed_hand}
 use Rattle.handover_core.proofs.Enabled.{IsEnabled}
-use Rattle.handover_core.specs.Bucket.{Sight, IsBucket}
-use Rattle.handover_core.specs.Sound.{sight, AreOf, cells_in, due, IsShaped, AreBuckets, IsCounted}
+use Rattle.handover_core.specs.Bucket.{BucketSnapshot, IsBucket}
+use Rattle.handover_core.specs.Sound.{bucket_snapshot, AreOf, cells_in, due, IsShaped, AreBuckets, IsCounted}
 use Rattle.handover_core.proofs.Cases.{by_take, by_claim, by_release}
 use Rattle.handover_core.proofs.Stages.{claim-first, leaving-is}
 use Rattle.handover_core.proofs.Counted.{cells_of, cells-split, cells-push_item, cells-push_end, cells-item, cells-end, cells-set, waiting-set, waiting-leave, met-cells, marks_of, marks-packet, marks-mark, marks-end, due_of, due-is, due-before, due-home, due-held, due-over, due-set}
@@ -133,25 +133,25 @@ take-counted m c h e t = by_take IsCounted m c e.1
       new_end : List Item → CoreState
       new_end q = record { queue = q; taken = (core_at m c).taken ++ End ∷ []; hands = map leave (core_at m c).hands }
 
-claimed-parked : (t : Bool) (first d : ℕ) → length (parked (if t then leave (Held first d) else Held first d)) ≡ 0
-claimed-parked true first d = refl
-claimed-parked false first d = refl
+claimed-waiting_places : (t : Bool) (first d : ℕ) → length (waiting_places (if t then leave (Held first d) else Held first d)) ≡ 0
+claimed-waiting_places true first d = refl
+claimed-waiting_places false first d = refl
 
 -- a hand set to one that waits for nothing
-hand-cells : (m : MachineView) (c b : ℕ) (x : Hand) → c < length m.cores → b < length (core_at m c).hands → length (parked x) ≡ 0 → m.free + sum_by cells_in m.cores ≡ m.pool
-    → m.free + length (parked (hand_at m c b)) + sum_by cells_in (set m.cores c (set_hand (core_at m c) b x)) ≡ m.pool
-hand-cells m c b x l lb z t = core-cells m c (set_hand (core_at m c) b x) (length (parked (hand_at m c b))) l
+hand-cells : (m : MachineView) (c b : ℕ) (x : Hand) → c < length m.cores → b < length (core_at m c).hands → length (waiting_places x) ≡ 0 → m.free + sum_by cells_in m.cores ≡ m.pool
+    → m.free + length (waiting_places (hand_at m c b)) + sum_by cells_in (set m.cores c (set_hand (core_at m c) b x)) ≡ m.pool
+hand-cells m c b x l lb z t = core-cells m c (set_hand (core_at m c) b x) (length (waiting_places (hand_at m c b))) l
     (let f = cells-split (core_at m c) in let g = cells-split (set_hand (core_at m c) b x) in let w = waiting-set (core_at m c).hands b x lb in omega arith) t
 
 pub claim-counted : (m : MachineView) (c b : ℕ) → IsShaped m → AreBuckets m → IsEnabled m (Claim c b) → IsCounted m → IsCounted (step m (Claim c b))
 claim-counted m c b h a e t = by_claim IsCounted m c b e.2
     (λ first rest i w. record {
-      cells = subst (λ (x : Hand). m.free + length (parked x) + sum_by cells_in (set m.cores c (set_hand (core_at m c) b (claimed_hand m c b (first ∷ rest)))) ≡ m.pool) i
+      cells = subst (λ (x : Hand). m.free + length (waiting_places x) + sum_by cells_in (set m.cores c (set_hand (core_at m c) b (claimed_hand m c b (first ∷ rest)))) ≡ m.pool) i
           (hand-cells m c b (claimed_hand m c b (first ∷ rest)) e.0 (subst (λ (n : ℕ). b < n) (sym (h.hands c e.0)) e.1)
-          (claimed-parked (has_end (core_at m c).taken) first _) t.cells);
+          (claimed-waiting_places (has_end (core_at m c).taken) first _) t.cells);
       moves = t.moves;
       turns =
-          let s = claim-first (sight m b) c first rest i w (a.buckets b e.1) in
+          let s = claim-first (bucket_snapshot m b) c first rest i w (a.buckets b e.1) in
           let d = due-set m b (new first) e.1 in
           let j = due-is (bucket_at m b) ∙ due-home (bucket_at m b).word (bucket_at m b).start (w ∙ ap (λ (x : ℕ). 2 * x + 1) s) in
           let k = due-is (new first) ∙ due-held (2 * first + 2) (bucket_at m b).start (ap (λ (x : ℕ). 2 * x + 2) s) in
@@ -162,7 +162,7 @@ claim-counted m c b h a e t = by_claim IsCounted m c b e.2
       new first = record (bucket_at m b) { word = 2 * first + 2; shelf = None }
 
 -- a release is the last that is due of its stint
-release-due : (v : Sight) (c a d : ℕ) → v.hand c ≡ Leaving a d → IsBucket v → due_of (2 * d + 1) v.start + 1 ≡ due_of v.word v.start
+release-due : (v : BucketSnapshot) (c a d : ℕ) → v.hand c ≡ Leaving a d → IsBucket v → due_of (2 * d + 1) v.start + 1 ≡ due_of v.word v.start
 release-due v c a d h b = ⊎_elim
     (λ (x : (v.word ≡ 2 * v.start + 2) × (d ≡ v.sent) × (v.start < v.sent)).
     let e = due-held v.word v.start x.0 in let l = x.2 in let i = x.1 in let f = due-over (2 * d + 1) v.start (omega arith) in omega arith)
@@ -173,10 +173,10 @@ release-due v c a d h b = ⊎_elim
 pub release-counted : (m : MachineView) (c b : ℕ) → IsShaped m → AreBuckets m → IsEnabled m (Release c b) → IsCounted m → IsCounted (step m (Release c b))
 release-counted m c b h a e t = by_release IsCounted m c b e.2
     (λ start done i. record {
-      cells = let x = hand-cells m c b Away e.0 (subst (λ (n : ℕ). b < n) (sym (h.hands c e.0)) e.1) refl t.cells in let y = ap (λ (z : Hand). length (parked z)) i in omega arith;
+      cells = let x = hand-cells m c b Away e.0 (subst (λ (n : ℕ). b < n) (sym (h.hands c e.0)) e.1) refl t.cells in let y = ap (λ (z : Hand). length (waiting_places z)) i in omega arith;
       moves = t.moves;
       turns =
-          let r = release-due (sight m b) c start done i (a.buckets b e.1) in
+          let r = release-due (bucket_snapshot m b) c start done i (a.buckets b e.1) in
           let d = due-set m b (new done) e.1 in
           let j = due-is (bucket_at m b) in
           let k = due-is (new done) in

@@ -23,7 +23,7 @@ use Rattle.handover_core.proofs.Rooms.{open-queue, not-sent-to}
 use Rattle.handover_core.proofs.Enabled.{IsEnabled, is_enabled}
 use Rattle.handover_core.proofs.EndsLeft.{ends_left, ends-end, end_to-item, end_to-here, end_to-other}
 use Rattle.handover_core.proofs.Frames.{end_sent-item, end_sent-end}
-use Rattle.handover_core.proofs.MachineDesks.{sent-here, sent-other}
+use Rattle.handover_core.proofs.MachineDispatchers.{sent-here, sent-other}
 use Rattle.handover_core.proofs.Steps.{no_end}
 use Rattle.handover_core.proofs.Nexts.{same-state, IsNext, IsQuiet, quiet-next}
 

@@ -5,8 +5,8 @@ use Rattle.std.proofs.lemmas.List.{append-nil, take_all, get_or_past}
 use Rattle.std.specs.Prelude.{count_by, ◌==◌}
 use Rattle.handover_core.specs.declared.item.Item.{Item}
 use Rattle.handover_core.specs.State.{Hand, Away, CoreState, MachineView, blank_core, bucket_at, core_at, hand_at, hand_in, sent_of}
-use Rattle.handover_core.specs.Bucket.{Piece, opening, Sight, Idle, Awaits, Works, Finishes, Fits, Stage, home, working, passing, over, IsIn}
-use Rattle.handover_core.specs.Sound.{pieces, sight, IsSound}
+use Rattle.handover_core.specs.Bucket.{Piece, opening, BucketSnapshot, Idle, Awaits, Works, Finishes, Fits, Stage, home, working, passing, over, IsIn}
+use Rattle.handover_core.specs.Sound.{pieces, bucket_snapshot, IsSound}
 use Rattle.handover_core.specs.Promises.{IsFinished, total, IsDone}
 use Rattle.handover_core.proofs.Stages.{at_owner}
 use Rattle.handover_core.proofs.OneHand.{at_finisher}
@@ -27,10 +27,10 @@ no-hand : (m : MachineView) (c b : ℕ) → IsFinished m → b < length m.bucket
 no-hand m c b f lb = ⊎_elim (λ (l : c < length m.cores). f.hands c b l lb) (λ (l : length m.cores ≤ c). ap (λ (s : CoreState). hand_in s b) (get_or_past m.cores c blank_core l)) (cases_lt c (length m.cores))
 
 -- the word and the shelf of a bucket of which nothing is anywhere else
-at-end : (m : MachineView) (b : ℕ) → IsFinished m → b < length m.buckets → (g : Stage) → IsIn g (sight m b) → ((bucket_at m b).word ≡ 2 * sent_of m b + 1) × ((bucket_at m b).shelf ≡ Some (sent_of m b))
+at-end : (m : MachineView) (b : ℕ) → IsFinished m → b < length m.buckets → (g : Stage) → IsIn g (bucket_snapshot m b) → ((bucket_at m b).word ≡ 2 * sent_of m b + 1) × ((bucket_at m b).shelf ≡ Some (sent_of m b))
 at-end m b f l home i = (i.word ∙ ap (λ (x : ℕ). 2 * x + 1) (sym e), i.shelf ∙ ap Some (sym e)) where
-  v : Sight
-  v = sight m b
+  v : BucketSnapshot
+  v = bucket_snapshot m b
 
   w : Fits (Awaits v.start v.sent) (v.ended v.owner) Away []
   w = subst (λ (q : List Piece). Fits (Awaits v.start v.sent) (v.ended v.owner) Away q) (ap (pieces b) (empty-queue m v.owner f))
@@ -38,9 +38,9 @@ at-end m b f l home i = (i.word ∙ ap (λ (x : ℕ). 2 * x + 1) (sym e), i.shel
 
   e : v.sent ≡ v.start
   e = opening-empty v.start v.sent w.0 w.1 w.2
-at-end m b f l working i = absurd (subst (λ (h : Hand). Fits (Works (sight m b).start (sight m b).sent) ((sight m b).ended (sight m b).owner) h ((sight m b).queue (sight m b).owner)) (no-hand m (sight m b).owner b f l)
-    (at_owner (sight m b) (Works (sight m b).start (sight m b).sent) (λ x. Idle) i.fits))
-at-end m b f l (passing p r) i = absurd (subst (λ (h : Hand). Fits (Finishes r (sight m b).start) ((sight m b).ended p) h ((sight m b).queue p)) (no-hand m p b f l) (at_finisher (sight m b) p r i))
+at-end m b f l working i = absurd (subst (λ (h : Hand). Fits (Works (bucket_snapshot m b).start (bucket_snapshot m b).sent) ((bucket_snapshot m b).ended (bucket_snapshot m b).owner) h ((bucket_snapshot m b).queue (bucket_snapshot m b).owner)) (no-hand m (bucket_snapshot m b).owner b f l)
+    (at_owner (bucket_snapshot m b) (Works (bucket_snapshot m b).start (bucket_snapshot m b).sent) (λ x. Idle) i.fits))
+at-end m b f l (passing p r) i = absurd (subst (λ (h : Hand). Fits (Finishes r (bucket_snapshot m b).start) ((bucket_snapshot m b).ended p) h ((bucket_snapshot m b).queue p)) (no-hand m p b f l) (at_finisher (bucket_snapshot m b) p r i))
 at-end m b f l over i = (i.word, i.shelf)
 
 pub finished-done : (m : MachineView) → IsSound m → IsFinished m → IsDone m

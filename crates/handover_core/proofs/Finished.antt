@@ -12,9 +12,9 @@ use Rattle.handover_core.specs.declared.event.Event.TheVariants.{Send, Look, Mov
 use Rattle.handover_core.specs.Dispatch.{stream}
 use Rattle.handover_core.specs.declared.post.Post.{Post}
 use Rattle.handover_core.specs.State.{Hand, Away, Waiting, Held, Leaving, MachineView, bucket_at, core_at, hand_at}
-use Rattle.handover_core.specs.Machine.{enabled, parked, is_end, has_end, is_empty, end_sent_to, waits_for, is_leaving, counted_events, next_event}
-use Rattle.handover_core.specs.Bucket.{Piece, Role, Idle, Awaits, Works, Finishes, Fits, role_in}
-use Rattle.handover_core.specs.Sound.{sight, IsSound}
+use Rattle.handover_core.specs.Machine.{enabled, waiting_places, is_end, has_end, is_empty, end_sent_to, waits_for, is_leaving, counted_events, next_event}
+use Rattle.handover_core.specs.Bucket.{Piece, Task, Idle, Awaits, Works, Finishes, Fits, task_in}
+use Rattle.handover_core.specs.Sound.{bucket_snapshot, IsSound}
 use Rattle.handover_core.specs.Promises.{IsFinished, IsOfWorker, counts}
 use Rattle.handover_core.proofs.Found.{Each_of, none-find, find-none, find-some, each-append, each-left, each-right, each-upto, each-at, each-flat, each-flat_at}
 use Rattle.handover_core.proofs.Pieces.{length-places_from}
@@ -178,7 +178,7 @@ ended-all m s n c l =
     subst (λ (z : List Item). has_end z ≡ true) (sym q) (sent-stream c m.dispatched (ends-all m s n c l))
 
 -- nothing waits, is held or is to be released
-idle-hand : (r : Role) (e : Bool) (h : Hand) (q : List Piece) → e ≡ true → ((places : List ℕ) → h ≡ Waiting places → (0 < length places → ⊥)) → is_leaving h ≡ false → Fits r e h q → h ≡ Away
+idle-hand : (r : Task) (e : Bool) (h : Hand) (q : List Piece) → e ≡ true → ((places : List ℕ) → h ≡ Waiting places → (0 < length places → ⊥)) → is_leaving h ≡ false → Fits r e h q → h ≡ Away
 idle-hand r e Away q t w l f = refl
 idle-hand Idle e (Waiting ps) q t w l f = absurd f
 idle-hand (Awaits s k) e (Waiting ps) q t w l f = absurd (w ps refl (let n = ap (λ (z : List ℕ). length z) f.4 ∙ length-places_from s f.0 in let p = f.2 in omega arith))
@@ -192,7 +192,7 @@ idle-hand r e (Leaving a d) q t w l f = absurd (cc)
 
 no-waiting : (m : MachineView) → IsSound m → EachCounted (λ e. enabled m e ≡ false) m → (c b : ℕ) → c < length m.cores → b < length m.buckets → (places : List ℕ) → hand_at m c b ≡ Waiting places → 0 < length places → ⊥
 no-waiting m s n c b l lb places i p =
-    let a = waiting-acts m s c b l lb (subst (λ (h : Hand). 0 < length (parked h)) (sym i) p) in no-act m n a.0 a.1 a.2
+    let a = waiting-acts m s c b l lb (subst (λ (h : Hand). 0 < length (waiting_places h)) (sym i) p) in no-act m n a.0 a.1 a.2
 
 pub stuck-finished : (m : MachineView) → IsSound m → next_event m ≡ None → IsFinished m
 stuck-finished m s e = record {
@@ -200,7 +200,7 @@ stuck-finished m s e = record {
   ends = ends-all m s n;
   queues = queues-all m n;
   hands = λ c b l lb. let g = s.buckets.buckets b lb in
-      idle-hand (role_in g.stage (bucket_at m b).owner (bucket_at m b).start (sight m b).sent c) (has_end (core_at m c).taken) (hand_at m c b) ((sight m b).queue c) (ended-all m s n c l)
+      idle-hand (task_in g.stage (bucket_at m b).owner (bucket_at m b).start (bucket_snapshot m b).sent c) (has_end (core_at m c).taken) (hand_at m c b) ((bucket_snapshot m b).queue c) (ended-all m s n c l)
       (no-waiting m s n c b l lb)
       (false-and (ltb b (length m.buckets)) _ (lt-ltb b (length m.buckets) lb) (false-and (ltb c (length m.cores)) _ (lt-ltb c (length m.cores) l) (n.releases c l b lb))) (g.is_in.fits c);
 } where

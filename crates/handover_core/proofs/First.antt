@@ -10,14 +10,14 @@ use Rattle.indirection.proofs.Tests.{by_test}
 use Rattle.handover_core.specs.declared.item.Item.{Item}
 use Rattle.handover_core.specs.State.{Hand, Away, CoreState, blank_bucket, blank_core, bucket_at, core_at, hand_at, hand_in, first_state}
 use Rattle.handover_core.specs.declared.bucket_state.BucketState.{BucketState}
-use Rattle.handover_core.specs.Machine.{parked}
+use Rattle.handover_core.specs.Machine.{waiting_places}
 use Rattle.handover_core.specs.Bucket.{Idle, Awaits, Fits, home, IsBucket}
 use Rattle.handover_core.specs.Runs.{IsMade}
 use Rattle.handover_core.specs.Promises.{worked}
 use Rattle.indirection.specs.Tries.{upto}
 use Rattle.handover_core.proofs.EndsLeft.{count-all}
 use Rattle.handover_core.proofs.Worked.{worked-shelf}
-use Rattle.handover_core.specs.Sound.{AreOf, sight, cells_in, due, IsShaped, IsStreamed, AreBuckets, IsCounted, ArePosts, IsSound}
+use Rattle.handover_core.specs.Sound.{AreOf, bucket_snapshot, cells_in, due, IsShaped, IsStreamed, AreBuckets, IsCounted, ArePosts, IsSound}
 
 fresh_core : ℕ → CoreState
 fresh_core n = record { queue = []; taken = []; hands = replicate n Away }
@@ -91,25 +91,25 @@ streamed-first : (owners : List ℕ) (cores : ℕ) (packets : List ℕ) (pool mo
 streamed-first owners cores packets pool moves = record {
   streams = λ c. none-first owners cores packets pool moves c;
   legal = λ c. tt;
-  desk = λ _. record {
-    pictures = λ b. let s = start-first owners cores packets pool moves b in record { below = omega arith; owner = sym s; others = λ c ne. tt };
+  dispatcher = λ _. record {
+    stands = λ b. let s = start-first owners cores packets pool moves b in record { below = omega arith; owner = sym s; others = λ c ne. tt };
     open_lists = λ c. refl;
     legal = λ c. tt;
   };
   ends = λ e. absurd (cc);
 }
 
-sight-first : (owners : List ℕ) (cores : ℕ) (packets : List ℕ) (pool moves b : ℕ) → b < length owners → IsBucket (sight (first_state owners cores packets pool moves) b)
+bucket_snapshot-first : (owners : List ℕ) (cores : ℕ) (packets : List ℕ) (pool moves b : ℕ) → b < length owners → IsBucket (bucket_snapshot (first_state owners cores packets pool moves) b)
 unfolding fresh_bucket
-sight-first owners cores packets pool moves b l = record {
+bucket_snapshot-first owners cores packets pool moves b l = record {
   stage = home;
   is_in = record {
     word = rw e refl;
     shelf = rw e refl;
     bounds = let s = start-first owners cores packets pool moves b in omega arith;
     fits = λ c. rw (hand-first owners cores packets pool moves c b, queue-first owners cores packets pool moves c)
-        (by_test c (sight (first_state owners cores packets pool moves) b).owner
-        (λ t. Fits (if t then Awaits (sight (first_state owners cores packets pool moves) b).start 0 else Idle) ((sight (first_state owners cores packets pool moves) b).ended c) Away [])
+        (by_test c (bucket_snapshot (first_state owners cores packets pool moves) b).owner
+        (λ t. Fits (if t then Awaits (bucket_snapshot (first_state owners cores packets pool moves) b).start 0 else Idle) ((bucket_snapshot (first_state owners cores packets pool moves) b).ended c) Away [])
         (λ _. let s = start-first owners cores packets pool moves b in (0, omega arith, refl)) (λ _. refl));
   };
   joins = sym (start-first owners cores packets pool moves b);
@@ -120,7 +120,7 @@ sight-first owners cores packets pool moves b l = record {
 buckets-first : (owners : List ℕ) (cores : ℕ) (packets : List ℕ) (pool moves : ℕ) → AreBuckets (first_state owners cores packets pool moves)
 unfolding fresh_bucket
 buckets-first owners cores packets pool moves = record {
-  buckets = λ b l. sight-first owners cores packets pool moves b (let n = length-map owners fresh_bucket in omega arith);
+  buckets = λ b l. bucket_snapshot-first owners cores packets pool moves b (let n = length-map owners fresh_bucket in omega arith);
   seen = λ b l n. rw (bucket-first owners cores packets pool moves b (let n = length-map owners fresh_bucket in omega arith)) (λ e. absurd (cc));
 }
 
@@ -132,7 +132,7 @@ due-first (o ∷ os) = let e = sum_by-cons due (fresh_bucket o) (map fresh_bucke
 counted-first : (owners : List ℕ) (cores : ℕ) (packets : List ℕ) (pool moves : ℕ) → IsCounted (first_state owners cores packets pool moves)
 unfolding fresh_core fresh_bucket
 counted-first owners cores packets pool moves = record {
-  cells = let e = sum_by-replicate cells_in cores (fresh_core (length owners)) in let f = sum_by-replicate (λ (h : Hand). length (parked h)) (length owners) Away in
+  cells = let e = sum_by-replicate cells_in cores (fresh_core (length owners)) in let f = sum_by-replicate (λ (h : Hand). length (waiting_places h)) (length owners) Away in
       let g : cells_in (fresh_core (length owners)) ≡ 0 = omega arith in
       let k : sum_by cells_in (replicate cores (fresh_core (length owners))) ≡ 0 = e ∙ (ap (λ (n : ℕ). cores * n) g ∙ omega arith) in omega arith;
   moves = omega arith;

@@ -1,16 +1,16 @@
--- What a core does with a bucket goes on fitting its role.
+-- What a core does with a bucket goes on fitting its task.
 use Rattle.std.proofs.Common.{◌≡◌, ℕ, zero, suc, ◌+◌, ◌<◌, List, [], ◌∷◌, ◌++◌, length, Bool, true, false, if◌then◌else◌, refl, sym, ap, ◌∙◌, subst, arith}
 use Rattle.indirection.proofs.Tests.{by_test}
 use Rattle.handover_core.specs.declared.item.Kind.TheVariants.{First, Next, Mark}
 use Rattle.handover_core.specs.State.{Hand, Away, Waiting, Held, Leaving}
 use Rattle.handover_core.specs.Dispatch.{kind_at}
 use Rattle.handover_core.specs.Machine.{met, leave}
-use Rattle.handover_core.specs.Bucket.{Piece, piece, nexts, opening, places_from, Role, Idle, Awaits, Works, Finishes, Fits}
+use Rattle.handover_core.specs.Bucket.{Piece, piece, nexts, opening, places_from, Task, Idle, Awaits, Works, Finishes, Fits}
 use Rattle.handover_core.proofs.Pieces.{nexts-push, opening-push, places_from-push, length-places_from}
 
 -- an item is taken
 
-TakesFitting : Role → Bool → Hand → Piece → List Piece → Type 0
+TakesFitting : Task → Bool → Hand → Piece → List Piece → Type 0
 TakesFitting r e h x rest = Fits r e (met h x.kind x.place) rest
 
 away-take : (s k : ℕ) (e : Bool) (x : Piece) (rest : List Piece) (n : ℕ) → s + n ≡ k → x ∷ rest ≡ opening s n → Fits (Awaits s k) e (met Away x.kind x.place) rest
@@ -46,7 +46,7 @@ finishes-take a top e start done x rest (suc n) i l d q o =
     let r : rest ≡ nexts (done + 1) n ++ piece Mark top ∷ [] = cc in
     subst (λ (x : Piece). Fits (Finishes a top) e (met (Held start done) x.kind x.place) rest) kx (n, i, omega arith, omega arith, r, o)
 
-pub fits-take : (r : Role) (e : Bool) (h : Hand) (x : Piece) (rest : List Piece) → Fits r e h (x ∷ rest) → Fits r e (met h x.kind x.place) rest
+pub fits-take : (r : Task) (e : Bool) (h : Hand) (x : Piece) (rest : List Piece) → Fits r e h (x ∷ rest) → Fits r e (met h x.kind x.place) rest
 fits-take Idle e Away x rest f = absurd (cc)
 fits-take Idle e (Waiting ps) x rest f = absurd f
 fits-take Idle e (Held a d) x rest f = absurd f
@@ -74,7 +74,7 @@ finishes-end : (top done n : ℕ) → [] ≡ nexts done n ++ piece Mark top ∷ 
 finishes-end top done zero q = cc
 finishes-end top done (suc n) q = cc
 
-pub fits-end : (r : Role) (e : Bool) (h : Hand) → Fits r e h [] → Fits r true (leave h) []
+pub fits-end : (r : Task) (e : Bool) (h : Hand) → Fits r e h [] → Fits r true (leave h) []
 fits-end Idle e Away f = f
 fits-end Idle e (Waiting ps) f = absurd f
 fits-end Idle e (Held a d) f = absurd f

@@ -1,8 +1,8 @@
 pub mod Turns
-pub mod Pictures
+pub mod Stands
 pub mod Streams
-pub mod Desk
-pub mod MachineDesks
+pub mod DispatcherSide
+pub mod MachineDispatchers
 pub mod Pieces
 pub mod Fits
 pub mod Buckets
@@ -14,8 +14,8 @@ pub mod Cases
 pub mod Streamed
 pub mod Shaped
 pub mod StintLists
-pub mod Sights
-pub mod WorkerSights
+pub mod BucketSnapshots
+pub mod WorkerSnapshots
 pub mod Kept
 pub mod Counted
 pub mod Counts

@@ -12,7 +12,7 @@ use Rattle.handover_core.specs.State.{Hand, MachineView, first_state, bucket_at,
 use Rattle.handover_core.specs.Machine.{has_end, step}
 use Rattle.handover_core.specs.Bucket.{Stage, home, working, passing, over, stint_of, IsIn}
 use Rattle.handover_core.specs.Runs.{Runs, IsStart}
-use Rattle.handover_core.specs.Sound.{ended_by, begun_by, ended_stints, sight, IsSound}
+use Rattle.handover_core.specs.Sound.{ended_by, begun_by, ended_stints, bucket_snapshot, IsSound}
 use Rattle.handover_core.specs.Neighbours.{IsPassing, FitsTaken, AreTaken, AreNeighbours}
 use Rattle.handover_core.specs.Legal.{new, stand_from}
 use Rattle.handover_core.proofs.Enabled.{is_enabled}
@@ -56,14 +56,14 @@ mark-sent b from core r s [] [] e = absurd (cc)
 mark-sent b from core r s [] (y ∷ front) e = absurd (cc)
 mark-sent b from core r s (p ∷ ds) front e = found-item b from core r s p.core p.item (λ f. ended_stints b f ds) front (stream core ds) (λ f front g. mark-sent b f core r s ds front g) e
 
-words-in : (m : MachineView) (b : ℕ) → IsSound m → has_end (core_at m (bucket_at m b).owner).taken ≡ false → (g : Stage) → IsIn g (sight m b)
+words-in : (m : MachineView) (b : ℕ) → IsSound m → has_end (core_at m (bucket_at m b).owner).taken ≡ false → (g : Stage) → IsIn g (bucket_snapshot m b)
     → ((bucket_at m b).word ≡ 2 * (bucket_at m b).start + 1) ⊎ ((bucket_at m b).word ≡ 2 * (bucket_at m b).start + 2) ⊎ IsPassing m b
 unfolding Found
 words-in m b s o home i = inl i.word
 words-in m b s o working i = inr (inl i.word)
 words-in m b s o over i = let t = i.bounds.1 in absurd (cc)
 words-in m b s o (passing p r) i =
-    let v = sight m b in
+    let v = bucket_snapshot m b in
     let e = i.bounds.3 in
     let f = mark-sent b 0 p r (bucket_at m b).start m.dispatched e.0 e.1 in
     inr (inr (record {

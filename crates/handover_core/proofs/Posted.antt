@@ -19,8 +19,8 @@ use Rattle.handover_core.specs.State.{Hand, Away, Waiting, Held, Leaving, Machin
 use Rattle.handover_core.specs.Machine.{step, took, released, posts_by}
 use Rattle.handover_core.specs.Dispatch.{stream, posts, dispatched, ends, dispatches}
 use Rattle.handover_core.specs.Legal.{is_open, Legal}
-use Rattle.handover_core.specs.Picture.{IsTold}
-use Rattle.handover_core.proofs.Desk.{IsTold-none, IsTold-send, IsTold-try}
+use Rattle.handover_core.specs.Stands.{IsTold}
+use Rattle.handover_core.proofs.DispatcherSide.{IsTold-none, IsTold-send, IsTold-try}
 use Rattle.handover_core.proofs.Streams.{Legal-push, Legal-front, stream-append, stream-here, stream-away}
 
 -- event by event
@@ -88,7 +88,7 @@ unfolding AreTold
 journal_legal rules xs j cores c l few =
     let steps = told 0 xs j.entries in
     let t : IsTold rules.start (tries_of steps) (parcels_of steps) (dispatched rules.start steps) = EachFrom-keeps (Fits rules) (AreTold rules) (told_step rules) [] steps (λ _. IsTold-none rules.start) l.steps (subst (λ (z : List Parcel). length z < 2 ^ 32) (sym (parcels_of-told j.entries 0 xs)) few) in
-    subst (λ (z : List ℕ). Legal (stream c (dispatched z steps ++ ends cores))) (sym l.start) (legal_ends (dispatched rules.start steps) c cores (t.desk.legal c) (t.desk.open_lists c))
+    subst (λ (z : List ℕ). Legal (stream c (dispatched z steps ++ ends cores))) (sym l.start) (legal_ends (dispatched rules.start steps) c cores (t.dispatcher.legal c) (t.dispatcher.open_lists c))
 
 pub fronts_legal : (rules : Rules) (xs : List Parcel) (j : JournalView) (cores c : ℕ) (before behind : List Post) → IsLawfulSoFar rules xs j → length xs < 2 ^ 32 → dispatches cores xs j ≡ before ++ behind → Legal (stream c before)
 fronts_legal rules xs j cores c before behind l few is = Legal-front (stream c before) (stream c behind) (subst Legal (ap (stream c) is ∙ stream-append c before behind) (journal_legal rules xs j cores c l few))

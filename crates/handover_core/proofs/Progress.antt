@@ -10,9 +10,9 @@ use Rattle.handover_core.specs.declared.item.Kind.TheVariants.{Mark}
 use Rattle.handover_core.specs.declared.event.Event.{Event}
 use Rattle.handover_core.specs.declared.event.Event.TheVariants.{Take, Claim, Release}
 use Rattle.handover_core.specs.State.{Hand, Away, Waiting, Held, Leaving, MachineView, blank_core, bucket_at, core_at, hand_at}
-use Rattle.handover_core.specs.Machine.{enabled, is_empty, parked, waits_for, is_leaving}
-use Rattle.handover_core.specs.Bucket.{Piece, piece, nexts, places_from, Sight, Idle, Awaits, Works, Finishes, Fits, Stage, home, working, passing, over, IsIn}
-use Rattle.handover_core.specs.Sound.{pieces, sight, cells_in, IsSound}
+use Rattle.handover_core.specs.Machine.{enabled, is_empty, waiting_places, waits_for, is_leaving}
+use Rattle.handover_core.specs.Bucket.{Piece, piece, nexts, places_from, BucketSnapshot, Idle, Awaits, Works, Finishes, Fits, Stage, home, working, passing, over, IsIn}
+use Rattle.handover_core.specs.Sound.{pieces, bucket_snapshot, cells_in, IsSound}
 use Rattle.handover_core.specs.Promises.{IsOfWorker}
 use Rattle.handover_core.proofs.Counted.{cells_of, waiting_in, cells-split, cells-nothing}
 use Rattle.handover_core.proofs.OneHand.{at_finisher, finishes-holds, holder-core}
@@ -25,9 +25,9 @@ sum-some f d (x ∷ xs) l = ⊎_elim
     (λ (h : f x ≤ 0). let e = sum_by-cons f x xs in let r = sum-some f d xs (omega arith) in (suc r.0, (let b = r.1 in omega arith), r.2))
     (cases_lt 0 (f x))
 
-waiting-some : (hs : List Hand) → 0 < waiting_in hs → (i : ℕ) × (i < length hs) × (0 < length (parked (get_or hs i Away)))
+waiting-some : (hs : List Hand) → 0 < waiting_in hs → (i : ℕ) × (i < length hs) × (0 < length (waiting_places (get_or hs i Away)))
 unfolding waiting_in
-waiting-some hs l = sum-some (λ (h : Hand). length (parked h)) Away hs l
+waiting-some hs l = sum-some (λ (h : Hand). length (waiting_places h)) Away hs l
 
 full-queue : (xs : List Item) → 0 < cells_of xs → is_empty xs ≡ false
 full-queue [] l = absurd (let e = cells-nothing in omega arith)
@@ -48,29 +48,29 @@ waits-head : (s j w : ℕ) (places : List ℕ) → 0 < j → places ≡ places_f
 waits-head s zero w places l e i = absurd (omega arith)
 waits-head s (suc j) w places l e i = subst (λ (ps : List ℕ). waits_for (Waiting ps) w ≡ true) (sym e) (eq-eqb w (2 * s + 1) i)
 
-awaits-claims : (s k w : ℕ) (e : Bool) (h : Hand) (q : List Piece) → Fits (Awaits s k) e h q → 0 < length (parked h) → w ≡ 2 * s + 1 → waits_for h w ≡ true
+awaits-claims : (s k w : ℕ) (e : Bool) (h : Hand) (q : List Piece) → Fits (Awaits s k) e h q → 0 < length (waiting_places h) → w ≡ 2 * s + 1 → waits_for h w ≡ true
 awaits-claims s k w e Away q f l i = absurd (omega arith)
 awaits-claims s k w e (Waiting ps) q f l i = waits-head s f.0 w ps f.2 f.4 i
 awaits-claims s k w e (Held a d) q f l i = absurd f
 awaits-claims s k w e (Leaving a d) q f l i = absurd f
 
-idle-parked : (e : Bool) (h : Hand) (q : List Piece) → Fits Idle e h q → 0 < length (parked h) → ⊥
-idle-parked e Away q f l = omega arith
-idle-parked e (Waiting ps) q f l = f
-idle-parked e (Held a d) q f l = f
-idle-parked e (Leaving a d) q f l = f
+idle-waiting_places : (e : Bool) (h : Hand) (q : List Piece) → Fits Idle e h q → 0 < length (waiting_places h) → ⊥
+idle-waiting_places e Away q f l = omega arith
+idle-waiting_places e (Waiting ps) q f l = f
+idle-waiting_places e (Held a d) q f l = f
+idle-waiting_places e (Leaving a d) q f l = f
 
-works-parked : (s k : ℕ) (e : Bool) (h : Hand) (q : List Piece) → Fits (Works s k) e h q → 0 < length (parked h) → ⊥
-works-parked s k e Away q f l = f
-works-parked s k e (Waiting ps) q f l = f
-works-parked s k e (Held a d) q f l = omega arith
-works-parked s k e (Leaving a d) q f l = omega arith
+works-waiting_places : (s k : ℕ) (e : Bool) (h : Hand) (q : List Piece) → Fits (Works s k) e h q → 0 < length (waiting_places h) → ⊥
+works-waiting_places s k e Away q f l = f
+works-waiting_places s k e (Waiting ps) q f l = f
+works-waiting_places s k e (Held a d) q f l = omega arith
+works-waiting_places s k e (Leaving a d) q f l = omega arith
 
-finishes-parked : (s k : ℕ) (e : Bool) (h : Hand) (q : List Piece) → Fits (Finishes s k) e h q → 0 < length (parked h) → ⊥
-finishes-parked s k e Away q f l = f
-finishes-parked s k e (Waiting ps) q f l = f
-finishes-parked s k e (Held a d) q f l = omega arith
-finishes-parked s k e (Leaving a d) q f l = omega arith
+finishes-waiting_places : (s k : ℕ) (e : Bool) (h : Hand) (q : List Piece) → Fits (Finishes s k) e h q → 0 < length (waiting_places h) → ⊥
+finishes-waiting_places s k e Away q f l = f
+finishes-waiting_places s k e (Waiting ps) q f l = f
+finishes-waiting_places s k e (Held a d) q f l = omega arith
+finishes-waiting_places s k e (Leaving a d) q f l = omega arith
 
 some-piece : (b : ℕ) (xs : List Item) (d n k : ℕ) → pieces b xs ≡ nexts d n ++ piece Mark k ∷ [] → is_empty xs ≡ false
 some-piece b [] d zero k e = absurd (cc)
@@ -86,22 +86,22 @@ finisher-goes m b p r s e (Waiting ps) i l lb f = absurd f
 finisher-goes m b p r s e (Held a d) i l lb f = (Take p, tt, take-enabled m p l (some-piece b (core_at m p).queue d f.0 s f.4))
 finisher-goes m b p r s e (Leaving a d) i l lb f = (Release p b, tt, release-enabled m p b l lb (ap is_leaving (sym i)))
 
-waiting-goes : (m : MachineView) (c b : ℕ) (g : Stage) → IsIn g (sight m b) → c < length m.cores → b < length m.buckets → 0 < length (parked (hand_at m c b)) → Acts m
+waiting-goes : (m : MachineView) (c b : ℕ) (g : Stage) → IsIn g (bucket_snapshot m b) → c < length m.cores → b < length m.buckets → 0 < length (waiting_places (hand_at m c b)) → Acts m
 waiting-goes m c b home i l lb p = by_test c v.owner (λ t. Fits (if t then Awaits v.start v.sent else Idle) (v.ended c) (v.hand c) (v.queue c) → Acts m)
     (λ _ f. (Claim c b, tt, claim-enabled m c b l lb (awaits-claims v.start v.sent v.word (v.ended c) (v.hand c) (v.queue c) f p i.word)))
-    (λ _ f. absurd (idle-parked (v.ended c) (v.hand c) (v.queue c) f p)) (i.fits c) where
-      v : Sight
-      v = sight m b
+    (λ _ f. absurd (idle-waiting_places (v.ended c) (v.hand c) (v.queue c) f p)) (i.fits c) where
+      v : BucketSnapshot
+      v = bucket_snapshot m b
 waiting-goes m c b working i l lb p = absurd (by_test c v.owner (λ t. Fits (if t then Works v.start v.sent else Idle) (v.ended c) (v.hand c) (v.queue c) → ⊥)
-    (λ _ f. works-parked v.start v.sent (v.ended c) (v.hand c) (v.queue c) f p)
-    (λ _ f. idle-parked (v.ended c) (v.hand c) (v.queue c) f p) (i.fits c)) where
-      v : Sight
-      v = sight m b
+    (λ _ f. works-waiting_places v.start v.sent (v.ended c) (v.hand c) (v.queue c) f p)
+    (λ _ f. idle-waiting_places (v.ended c) (v.hand c) (v.queue c) f p) (i.fits c)) where
+      v : BucketSnapshot
+      v = bucket_snapshot m b
 waiting-goes m c b (passing q r) i l lb p =
-    let v = sight m b in
+    let v = bucket_snapshot m b in
     let f = at_finisher v q r i in
     finisher-goes m b q r v.start (v.ended q) (v.hand q) refl (holder-core m q b r (finishes-holds r v.start (v.ended q) (v.hand q) (v.queue q) f)) lb f
-waiting-goes m c b over i l lb p = absurd (idle-parked ((sight m b).ended c) (hand_at m c b) ((sight m b).queue c) (i.fits c) p)
+waiting-goes m c b over i l lb p = absurd (idle-waiting_places ((bucket_snapshot m b).ended c) (hand_at m c b) ((bucket_snapshot m b).queue c) (i.fits c) p)
 
 core-goes : (m : MachineView) (c : ℕ) → IsSound m → c < length m.cores → 0 < cells_in (core_at m c) → Acts m
 core-goes m c s l h = ⊎_elim
@@ -121,5 +121,5 @@ worker-goes m s ne =
     core-goes m i.0 s i.1 i.2
 
 -- what waits has a worker's event before it
-pub waiting-acts : (m : MachineView) → IsSound m → (c b : ℕ) → c < length m.cores → b < length m.buckets → 0 < length (parked (hand_at m c b)) → Acts m
+pub waiting-acts : (m : MachineView) → IsSound m → (c b : ℕ) → c < length m.cores → b < length m.buckets → 0 < length (waiting_places (hand_at m c b)) → Acts m
 waiting-acts m s c b l lb p = waiting-goes m c b (s.buckets.buckets b lb).stage (s.buckets.buckets b lb).is_in l lb p

@@ -8,24 +8,24 @@ use Rattle.indirection.proofs.Steps.{tries_of-send, tries_of-append, parcels_of-
 use Rattle.indirection.specs.declared.outcome.Outcome.{Outcome}
 use Rattle.indirection.specs.declared.outcome.Outcome.TheVariants.{Moved, Placed}
 use Rattle.indirection.specs.Tries.{Try, owner_by, owner_after, tail_by, tail_from}
-use Rattle.indirection.specs.Story.{Parcel, Step, Tries, Sends, parcels_of, tries_of, count_in, try_of}
+use Rattle.indirection.specs.Story.{Parcel, Step, Tries, Sends, parcels_of, tries_of, count_in, try_of, owner_then, start_then, sent_then}
 use Rattle.handover_core.specs.declared.item.Item.TheVariants.{Of, End}
 use Rattle.handover_core.specs.declared.event.Event.{Event}
 use Rattle.handover_core.specs.declared.event.Event.TheVariants.{Send, Look, Move, Place, SendEnd, Take, Claim, Release}
 use Rattle.handover_core.specs.declared.bucket_state.BucketState.{BucketState}
 use Rattle.handover_core.specs.declared.post.Post.{Post}
-use Rattle.handover_core.specs.Dispatch.{kind_at, owner_then, start_then, sent_then, mark_posts, posts, dispatched}
+use Rattle.handover_core.specs.Dispatch.{kind_at, mark_posts, posts, dispatched}
 use Rattle.handover_core.specs.State.{MachineView, first_state, bucket_at, blank_bucket, sent_of}
 use Rattle.handover_core.specs.Machine.{step, end_sent, posts_by}
 use Rattle.handover_core.specs.Runs.{Runs, IsMade}
 use Rattle.handover_core.specs.Sound.{IsSound}
 use Rattle.handover_core.specs.Told.{asked, steps_by, steps_in, end_by, ends_in}
 use Rattle.handover_core.proofs.Cases.{by_take, by_claim, by_release}
-use Rattle.handover_core.proofs.Desk.{count-here, count-other, owner-here, owner-other, tail-here, tail-other}
+use Rattle.handover_core.proofs.DispatcherSide.{count-here, count-other, owner-here, owner-other, tail-here, tail-other}
 use Rattle.handover_core.proofs.Enabled.{IsEnabled, is_enabled}
 use Rattle.handover_core.proofs.First.{owner-first, start-first, first-sound}
 use Rattle.handover_core.proofs.Frames.{end_sent-end}
-use Rattle.handover_core.proofs.MachineDesks.{sent-here, sent-other}
+use Rattle.handover_core.proofs.MachineDispatchers.{sent-here, sent-other}
 use Rattle.handover_core.proofs.Steps.{step-sound, no_end}
 
 -- the state goes with the steps so far; Ends were sent behind them

@@ -6,7 +6,7 @@ use Rattle.handover_core.specs.declared.item.Kind.TheVariants.{Mark}
 use Rattle.handover_core.specs.State.{Hand, Away, Waiting, Held, Leaving}
 use Rattle.handover_core.specs.Dispatch.{kind_at}
 use Rattle.handover_core.specs.Machine.{leave, shelf_done}
-use Rattle.handover_core.specs.Bucket.{Piece, piece, Sight, Role, Idle, Awaits, Works, Finishes, Fits, Stage, home, working, passing, over, role_in, stint_of, IsIn, IsBucket}
+use Rattle.handover_core.specs.Bucket.{Piece, piece, BucketSnapshot, Task, Idle, Awaits, Works, Finishes, Fits, Stage, home, working, passing, over, task_in, stint_of, IsIn, IsBucket}
 use Rattle.handover_core.proofs.Turns.{upd, after_send, after_move, after_place, after_claim, after_release}
 use Rattle.handover_core.proofs.Fits.{awaits-send, works-send, works-mark, awaits-claim, idle-awaits, awaits-none, awaits-first}
 use Rattle.handover_core.proofs.Buckets.{upd-away, fits-queue, fits-hand}
@@ -19,17 +19,17 @@ if-away x y a b ne = ap (λ (t : Bool). if t then a else b) (ne_eqb x y ne)
 
 -- one more packet
 
-send-fits : (v : Sight) (s1 : Role) (away : ℕ → Role) → Fits s1 (v.ended v.owner) (v.hand v.owner) (v.queue v.owner ++ piece (kind_at v.start v.sent) v.sent ∷ []) → (r1 : Role) → ((x : ℕ) → Fits (if x == v.owner then r1 else away x) (v.ended x) (v.hand x) (v.queue x))
+send-fits : (v : BucketSnapshot) (s1 : Task) (away : ℕ → Task) → Fits s1 (v.ended v.owner) (v.hand v.owner) (v.queue v.owner ++ piece (kind_at v.start v.sent) v.sent ∷ []) → (r1 : Task) → ((x : ℕ) → Fits (if x == v.owner then r1 else away x) (v.ended x) (v.hand x) (v.queue x))
     → (x : ℕ) → Fits (if x == v.owner then s1 else away x) (v.ended x) (v.hand x) (upd v.queue v.owner (v.queue v.owner ++ piece (kind_at v.start v.sent) v.sent ∷ []) x)
 send-fits v s1 away here r1 all =
     fits-queue (λ x. if x == v.owner then r1 else away x) (λ x. if x == v.owner then s1 else away x) v.ended v.hand v.queue v.owner (v.queue v.owner ++ piece (kind_at v.start v.sent) v.sent ∷ []) all
     (λ x ne. if-away x v.owner s1 (away x) ne ∙ sym (if-away x v.owner r1 (away x) ne))
-    (subst (λ (r : Role). Fits r (v.ended v.owner) (v.hand v.owner) (v.queue v.owner ++ piece (kind_at v.start v.sent) v.sent ∷ [])) (sym (if-here v.owner s1 (away v.owner))) here)
+    (subst (λ (r : Task). Fits r (v.ended v.owner) (v.hand v.owner) (v.queue v.owner ++ piece (kind_at v.start v.sent) v.sent ∷ [])) (sym (if-here v.owner s1 (away v.owner))) here)
 
-pub at_owner : (v : Sight) (r1 : Role) (away : ℕ → Role) → ((x : ℕ) → Fits (if x == v.owner then r1 else away x) (v.ended x) (v.hand x) (v.queue x)) → Fits r1 (v.ended v.owner) (v.hand v.owner) (v.queue v.owner)
-at_owner v r1 away all = subst (λ (r : Role). Fits r (v.ended v.owner) (v.hand v.owner) (v.queue v.owner)) (if-here v.owner r1 (away v.owner)) (all v.owner)
+pub at_owner : (v : BucketSnapshot) (r1 : Task) (away : ℕ → Task) → ((x : ℕ) → Fits (if x == v.owner then r1 else away x) (v.ended x) (v.hand x) (v.queue x)) → Fits r1 (v.ended v.owner) (v.hand v.owner) (v.queue v.owner)
+at_owner v r1 away all = subst (λ (r : Task). Fits r (v.ended v.owner) (v.hand v.owner) (v.queue v.owner)) (if-here v.owner r1 (away v.owner)) (all v.owner)
 
-sent-in : (v : Sight) → v.ended v.owner ≡ false → (g : Stage) → IsIn g v → IsIn g (after_send v)
+sent-in : (v : BucketSnapshot) → v.ended v.owner ≡ false → (g : Stage) → IsIn g v → IsIn g (after_send v)
 sent-in v o home i = record {
   word = i.word;
   shelf = i.shelf;
@@ -51,7 +51,7 @@ sent-in v o (passing p r) i = record {
 }
 sent-in v o over i = let t = i.bounds.1 in absurd (cc)
 
-pub send-keeps : (v : Sight) → v.ended v.owner ≡ false → IsBucket v → IsBucket (after_send v)
+pub send-keeps : (v : BucketSnapshot) → v.ended v.owner ≡ false → IsBucket v → IsBucket (after_send v)
 send-keeps v o b = record { stage = b.stage; is_in = sent-in v o b.stage b.is_in; joins = b.joins }
 
 -- a move
@@ -60,7 +60,7 @@ Joins-push : (from : ℕ) (ss : List Stint) (to t c : ℕ) → Joins from ss to 
 Joins-push from [] to t c j l = (sym j, omega arith, refl)
 Joins-push from (s ∷ ss) to t c j l = (j.0, j.1, Joins-push s.to ss to t c j.2 l)
 
-moved-in : (v : Sight) (to : ℕ) → v.ended v.owner ≡ false → to ≢ v.owner → IsIn working v → IsIn (passing v.owner v.start) (after_move v to)
+moved-in : (v : BucketSnapshot) (to : ℕ) → v.ended v.owner ≡ false → to ≢ v.owner → IsIn working v → IsIn (passing v.owner v.start) (after_move v to)
 moved-in v to o ne i = record {
   word = i.word;
   shelf = i.shelf;
@@ -77,15 +77,15 @@ moved-in v to o ne i = record {
   marked = v.queue v.owner ++ piece Mark v.sent ∷ []
 
   idle : (x : ℕ) → x ≢ v.owner → Fits Idle (v.ended x) (v.hand x) (v.queue x)
-  idle x n = subst (λ (r : Role). Fits r (v.ended x) (v.hand x) (v.queue x)) (if-away x v.owner (Works v.start v.sent) Idle n) (i.fits x)
+  idle x n = subst (λ (r : Task). Fits r (v.ended x) (v.hand x) (v.queue x)) (if-away x v.owner (Works v.start v.sent) Idle n) (i.fits x)
 
-works_only : (v : Sight) → v.ended v.owner ≡ false → v.word ≡ 2 * v.start + 2 → (g : Stage) → IsIn g v → IsIn working v
+works_only : (v : BucketSnapshot) → v.ended v.owner ≡ false → v.word ≡ 2 * v.start + 2 → (g : Stage) → IsIn g v → IsIn working v
 works_only v o w home i = let e = i.word in absurd (omega arith)
 works_only v o w working i = i
 works_only v o w (passing p r) i = let e = i.word in let l = i.bounds.1 in absurd (omega arith)
 works_only v o w over i = let t = i.bounds.1 in absurd (cc)
 
-pub move-keeps : (v : Sight) (to : ℕ) → v.ended v.owner ≡ false → v.word ≡ 2 * v.start + 2 → to ≢ v.owner → IsBucket v → IsBucket (after_move v to)
+pub move-keeps : (v : BucketSnapshot) (to : ℕ) → v.ended v.owner ≡ false → v.word ≡ 2 * v.start + 2 → to ≢ v.owner → IsBucket v → IsBucket (after_move v to)
 move-keeps v to o w ne b = record {
   stage = passing v.owner v.start;
   is_in = moved-in v to o ne (works_only v o w b.stage b.is_in);
@@ -94,7 +94,7 @@ move-keeps v to o w ne b = record {
 
 -- a bucket of which nothing was sent
 
-placed-in : (v : Sight) (to : ℕ) → v.sent ≡ 0 → (g : Stage) → IsIn g v → IsIn home (after_place v to)
+placed-in : (v : BucketSnapshot) (to : ℕ) → v.sent ≡ 0 → (g : Stage) → IsIn g v → IsIn home (after_place v to)
 placed-in v to z working i = let b = i.bounds in absurd (omega arith)
 placed-in v to z (passing p r) i = let b = i.bounds.1 in let d = i.bounds.2 in absurd (omega arith)
 placed-in v to z over i = let b = i.bounds.0 in absurd (omega arith)
@@ -110,19 +110,19 @@ placed-in v to z home i = record {
   idle x = by_test x v.owner (λ t. Fits (if t then Awaits v.start v.sent else Idle) (v.ended x) (v.hand x) (v.queue x) → Fits Idle (v.ended x) (v.hand x) (v.queue x))
       (λ _ f. awaits-none v.start v.sent (v.ended x) (v.hand x) (v.queue x) z f) (λ _ f. f) (i.fits x)
 
-pub place-keeps : (v : Sight) (to : ℕ) → v.sent ≡ 0 → IsBucket v → IsBucket (after_place v to)
+pub place-keeps : (v : BucketSnapshot) (to : ℕ) → v.sent ≡ 0 → IsBucket v → IsBucket (after_place v to)
 place-keeps v to z b = record { stage = home; is_in = placed-in v to z b.stage b.is_in; joins = b.joins }
 
 -- a claim
 
-claimed-in : (v : Sight) (first : ℕ) (rest : List ℕ) → v.hand v.owner ≡ Waiting (first ∷ rest) → (v.ended v.owner ≡ true → v.queue v.owner ≡ []) → IsIn home v → IsIn working (after_claim v v.owner first (first ∷ rest))
+claimed-in : (v : BucketSnapshot) (first : ℕ) (rest : List ℕ) → v.hand v.owner ≡ Waiting (first ∷ rest) → (v.ended v.owner ≡ true → v.queue v.owner ≡ []) → IsIn home v → IsIn working (after_claim v v.owner first (first ∷ rest))
 claimed-in v first rest h none i = record {
   word = ap (λ (x : ℕ). 2 * x + 2) starts.0;
   shelf = refl;
   bounds = starts.1;
-  fits = fits-hand (role_in home v.owner v.start v.sent) (role_in working v.owner v.start v.sent) v.ended v.hand v.queue v.owner hand i.fits
+  fits = fits-hand (task_in home v.owner v.start v.sent) (task_in working v.owner v.start v.sent) v.ended v.hand v.queue v.owner hand i.fits
       (λ x ne. if-away x v.owner (Works v.start v.sent) Idle ne ∙ sym (if-away x v.owner (Awaits v.start v.sent) Idle ne))
-      (subst (λ (r : Role). Fits r (v.ended v.owner) hand (v.queue v.owner)) (sym (if-here v.owner (Works v.start v.sent) Idle))
+      (subst (λ (r : Task). Fits r (v.ended v.owner) hand (v.queue v.owner)) (sym (if-here v.owner (Works v.start v.sent) Idle))
       (rw (i.shelf, starts.0) (held (v.ended v.owner) (awaits-claim v.start v.sent (v.ended v.owner) (first ∷ rest) (v.queue v.owner) waits none))));
 } where
   waits : Fits (Awaits v.start v.sent) (v.ended v.owner) (Waiting (first ∷ rest)) (v.queue v.owner)
@@ -139,9 +139,9 @@ claimed-in v first rest h none i = record {
   held true f = f
   held false f = f
 
-pub waiting-home : (v : Sight) (c first : ℕ) (rest : List ℕ) → v.hand c ≡ Waiting (first ∷ rest) → v.word ≡ 2 * first + 1 → (g : Stage) → IsIn g v → (c ≡ v.owner) × IsIn home v
-waiting-home v c first rest h w g i = at_stage g i (subst (λ (x : Hand). Fits (role_in g v.owner v.start v.sent c) (v.ended c) x (v.queue c)) h (i.fits c)) where
-  at_stage : (g : Stage) → IsIn g v → Fits (role_in g v.owner v.start v.sent c) (v.ended c) (Waiting (first ∷ rest)) (v.queue c) → (c ≡ v.owner) × IsIn home v
+pub waiting-home : (v : BucketSnapshot) (c first : ℕ) (rest : List ℕ) → v.hand c ≡ Waiting (first ∷ rest) → v.word ≡ 2 * first + 1 → (g : Stage) → IsIn g v → (c ≡ v.owner) × IsIn home v
+waiting-home v c first rest h w g i = at_stage g i (subst (λ (x : Hand). Fits (task_in g v.owner v.start v.sent c) (v.ended c) x (v.queue c)) h (i.fits c)) where
+  at_stage : (g : Stage) → IsIn g v → Fits (task_in g v.owner v.start v.sent c) (v.ended c) (Waiting (first ∷ rest)) (v.queue c) → (c ≡ v.owner) × IsIn home v
   at_stage home i f = by_test c v.owner (λ t. Fits (if t then Awaits v.start v.sent else Idle) (v.ended c) (Waiting (first ∷ rest)) (v.queue c) → (c ≡ v.owner) × IsIn home v)
       (λ e _. (e, i)) (λ _ f. absurd f) f
   at_stage working i f = by_test c v.owner (λ t. Fits (if t then Works v.start v.sent else Idle) (v.ended c) (Waiting (first ∷ rest)) (v.queue c) → (c ≡ v.owner) × IsIn home v)
@@ -149,7 +149,7 @@ waiting-home v c first rest h w g i = at_stage g i (subst (λ (x : Hand). Fits (
   at_stage (passing p r) i f = let e = i.word in absurd (omega arith)
   at_stage over i f = absurd f
 
-pub claim-keeps : (v : Sight) (c first : ℕ) (rest : List ℕ) → v.hand c ≡ Waiting (first ∷ rest) → v.word ≡ 2 * first + 1 → (v.ended c ≡ true → v.queue c ≡ []) → IsBucket v → IsBucket (after_claim v c first (first ∷ rest))
+pub claim-keeps : (v : BucketSnapshot) (c first : ℕ) (rest : List ℕ) → v.hand c ≡ Waiting (first ∷ rest) → v.word ≡ 2 * first + 1 → (v.ended c ≡ true → v.queue c ≡ []) → IsBucket v → IsBucket (after_claim v c first (first ∷ rest))
 claim-keeps v c first rest h w none b = record {
   stage = working;
   is_in = subst (λ (x : ℕ). IsIn working (after_claim v x first (first ∷ rest))) (sym at_home.0)
@@ -159,7 +159,7 @@ claim-keeps v c first rest h w none b = record {
   at_home : (c ≡ v.owner) × IsIn home v
   at_home = waiting-home v c first rest h w b.stage b.is_in
 
-pub claim-first : (v : Sight) (c first : ℕ) (rest : List ℕ) → v.hand c ≡ Waiting (first ∷ rest) → v.word ≡ 2 * first + 1 → IsBucket v → first ≡ v.start
+pub claim-first : (v : BucketSnapshot) (c first : ℕ) (rest : List ℕ) → v.hand c ≡ Waiting (first ∷ rest) → v.word ≡ 2 * first + 1 → IsBucket v → first ≡ v.start
 claim-first v c first rest h w b = (awaits-first v.start v.sent (v.ended v.owner) first rest (v.queue v.owner)
     (subst (λ (x : Hand). Fits (Awaits v.start v.sent) (v.ended v.owner) x (v.queue v.owner)) (subst (λ (x : ℕ). v.hand x ≡ Waiting (first ∷ rest)) at_home.0 h) (at_owner v (Awaits v.start v.sent) (λ x. Idle) at_home.1.fits))).0 where
       at_home : (c ≡ v.owner) × IsIn home v
@@ -167,32 +167,32 @@ claim-first v c first rest h w b = (awaits-first v.start v.sent (v.ended v.owner
 
 -- a release
 
-released-over : (v : Sight) (a d : ℕ) → v.hand v.owner ≡ Leaving a d → IsIn working v → IsIn over (after_release v v.owner d)
+released-over : (v : BucketSnapshot) (a d : ℕ) → v.hand v.owner ≡ Leaving a d → IsIn working v → IsIn over (after_release v v.owner d)
 released-over v a d h i = record {
   word = ap (λ (x : ℕ). 2 * x + 1) f.2;
   shelf = ap Some f.2;
   bounds = (i.bounds, f.4);
-  fits = fits-hand (role_in working v.owner v.start v.sent) (λ x. Idle) v.ended v.hand v.queue v.owner Away i.fits (λ x ne. sym (if-away x v.owner (Works v.start v.sent) Idle ne)) f.3;
+  fits = fits-hand (task_in working v.owner v.start v.sent) (λ x. Idle) v.ended v.hand v.queue v.owner Away i.fits (λ x ne. sym (if-away x v.owner (Works v.start v.sent) Idle ne)) f.3;
 } where
   f : Fits (Works v.start v.sent) (v.ended v.owner) (Leaving a d) (v.queue v.owner)
   f = subst (λ (x : Hand). Fits (Works v.start v.sent) (v.ended v.owner) x (v.queue v.owner)) h (at_owner v (Works v.start v.sent) (λ x. Idle) i.fits)
 
-released-home : (v : Sight) (p r a d : ℕ) → v.hand p ≡ Leaving a d → IsIn (passing p r) v → IsIn home (after_release v p d)
+released-home : (v : BucketSnapshot) (p r a d : ℕ) → v.hand p ≡ Leaving a d → IsIn (passing p r) v → IsIn home (after_release v p d)
 released-home v p r a d h i = record {
   word = ap (λ (x : ℕ). 2 * x + 1) f.2;
   shelf = ap Some f.2;
   bounds = i.bounds.2;
-  fits = fits-hand (role_in (passing p r) v.owner v.start v.sent) (role_in home v.owner v.start v.sent) v.ended v.hand v.queue p Away i.fits
-      (λ x ne. sym (ap (λ (z : Role). if x == v.owner then Awaits v.start v.sent else z) (if-away x p (Finishes r v.start) Idle ne)))
-      (subst (λ (z : Role). Fits z (v.ended p) Away (v.queue p)) (sym (if-away p v.owner (Awaits v.start v.sent) Idle i.bounds.0)) f.3);
+  fits = fits-hand (task_in (passing p r) v.owner v.start v.sent) (task_in home v.owner v.start v.sent) v.ended v.hand v.queue p Away i.fits
+      (λ x ne. sym (ap (λ (z : Task). if x == v.owner then Awaits v.start v.sent else z) (if-away x p (Finishes r v.start) Idle ne)))
+      (subst (λ (z : Task). Fits z (v.ended p) Away (v.queue p)) (sym (if-away p v.owner (Awaits v.start v.sent) Idle i.bounds.0)) f.3);
 } where
   f : Fits (Finishes r v.start) (v.ended p) (Leaving a d) (v.queue p)
   f = subst (λ (x : Hand). Fits (Finishes r v.start) (v.ended p) x (v.queue p)) h
-      (subst (λ (z : Role). Fits z (v.ended p) (v.hand p) (v.queue p)) (if-away p v.owner (Awaits v.start v.sent) (if p == p then Finishes r v.start else Idle) i.bounds.0 ∙ if-here p (Finishes r v.start) Idle) (i.fits p))
+      (subst (λ (z : Task). Fits z (v.ended p) (v.hand p) (v.queue p)) (if-away p v.owner (Awaits v.start v.sent) (if p == p then Finishes r v.start else Idle) i.bounds.0 ∙ if-here p (Finishes r v.start) Idle) (i.fits p))
 
-pub release-keeps : (v : Sight) (c a d : ℕ) → v.hand c ≡ Leaving a d → IsBucket v → IsBucket (after_release v c d)
-release-keeps v c a d h b = at_stage b.stage b.is_in (subst (λ (x : Hand). Fits (role_in b.stage v.owner v.start v.sent c) (v.ended c) x (v.queue c)) h (b.is_in.fits c)) where
-  at_stage : (g : Stage) → IsIn g v → Fits (role_in g v.owner v.start v.sent c) (v.ended c) (Leaving a d) (v.queue c) → IsBucket (after_release v c d)
+pub release-keeps : (v : BucketSnapshot) (c a d : ℕ) → v.hand c ≡ Leaving a d → IsBucket v → IsBucket (after_release v c d)
+release-keeps v c a d h b = at_stage b.stage b.is_in (subst (λ (x : Hand). Fits (task_in b.stage v.owner v.start v.sent c) (v.ended c) x (v.queue c)) h (b.is_in.fits c)) where
+  at_stage : (g : Stage) → IsIn g v → Fits (task_in g v.owner v.start v.sent c) (v.ended c) (Leaving a d) (v.queue c) → IsBucket (after_release v c d)
   at_stage home i f = absurd (by_test c v.owner (λ t. Fits (if t then Awaits v.start v.sent else Idle) (v.ended c) (Leaving a d) (v.queue c) → ⊥) (λ _ f. f) (λ _ f. f) f)
   at_stage working i f = by_test c v.owner (λ t. Fits (if t then Works v.start v.sent else Idle) (v.ended c) (Leaving a d) (v.queue c) → IsBucket (after_release v c d))
       (λ e _. record { stage = over; is_in = subst (λ (x : ℕ). IsIn over (after_release v x d)) (sym e) (released-over v a d (subst (λ (x : ℕ). v.hand x ≡ Leaving a d) e h) i); joins = b.joins })
@@ -205,15 +205,15 @@ release-keeps v c a d h b = at_stage b.stage b.is_in (subst (λ (x : Hand). Fits
   at_stage over i f = absurd f
 
 -- while no End was sent, nothing is to be released of a bucket that its owner works
-pub no-release : (v : Sight) (c a d : ℕ) → v.ended v.owner ≡ false → v.word ≡ 2 * v.start + 2 → v.hand c ≡ Leaving a d → IsBucket v → ⊥
+pub no-release : (v : BucketSnapshot) (c a d : ℕ) → v.ended v.owner ≡ false → v.word ≡ 2 * v.start + 2 → v.hand c ≡ Leaving a d → IsBucket v → ⊥
 no-release v c a d o w h b = by_test c v.owner (λ t. Fits (if t then Works v.start v.sent else Idle) (v.ended c) (Leaving a d) (v.queue c) → ⊥)
     (λ e f. let t = f.4 in let g : v.ended c ≡ false = ap v.ended e ∙ o in cc) (λ _ f. f)
-    (subst (λ (x : Hand). Fits (role_in working v.owner v.start v.sent c) (v.ended c) x (v.queue c)) h ((works_only v o w b.stage b.is_in).fits c))
+    (subst (λ (x : Hand). Fits (task_in working v.owner v.start v.sent c) (v.ended c) x (v.queue c)) h ((works_only v o w b.stage b.is_in).fits c))
 
 -- a table that is to be released was worked by the owner to the last packet, or by the core of the stint before to the newest start
-pub leaving-is : (v : Sight) (c a d : ℕ) → v.hand c ≡ Leaving a d → IsBucket v → ((v.word ≡ 2 * v.start + 2) × (d ≡ v.sent) × (v.start < v.sent)) ⊎ ((v.word < 2 * v.start + 1) × (d ≡ v.start))
-leaving-is v c a d h b = at_stage b.stage b.is_in (subst (λ (x : Hand). Fits (role_in b.stage v.owner v.start v.sent c) (v.ended c) x (v.queue c)) h (b.is_in.fits c)) where
-  at_stage : (g : Stage) → IsIn g v → Fits (role_in g v.owner v.start v.sent c) (v.ended c) (Leaving a d) (v.queue c) → ((v.word ≡ 2 * v.start + 2) × (d ≡ v.sent) × (v.start < v.sent)) ⊎ ((v.word < 2 * v.start + 1) × (d ≡ v.start))
+pub leaving-is : (v : BucketSnapshot) (c a d : ℕ) → v.hand c ≡ Leaving a d → IsBucket v → ((v.word ≡ 2 * v.start + 2) × (d ≡ v.sent) × (v.start < v.sent)) ⊎ ((v.word < 2 * v.start + 1) × (d ≡ v.start))
+leaving-is v c a d h b = at_stage b.stage b.is_in (subst (λ (x : Hand). Fits (task_in b.stage v.owner v.start v.sent c) (v.ended c) x (v.queue c)) h (b.is_in.fits c)) where
+  at_stage : (g : Stage) → IsIn g v → Fits (task_in g v.owner v.start v.sent c) (v.ended c) (Leaving a d) (v.queue c) → ((v.word ≡ 2 * v.start + 2) × (d ≡ v.sent) × (v.start < v.sent)) ⊎ ((v.word < 2 * v.start + 1) × (d ≡ v.start))
   at_stage home i f = absurd (by_test c v.owner (λ t. Fits (if t then Awaits v.start v.sent else Idle) (v.ended c) (Leaving a d) (v.queue c) → ⊥) (λ _ f. f) (λ _ f. f) f)
   at_stage working i f = by_test c v.owner (λ t. Fits (if t then Works v.start v.sent else Idle) (v.ended c) (Leaving a d) (v.queue c) → ((v.word ≡ 2 * v.start + 2) × (d ≡ v.sent) × (v.start < v.sent)) ⊎ ((v.word < 2 * v.start + 1) × (d ≡ v.start)))
       (λ _ f. inl (i.word, f.2, i.bounds)) (λ _ f. absurd f) f

@@ -12,15 +12,15 @@ use Rattle.handover_core.specs.Dispatch.{stream, kind_at}
 use Rattle.handover_core.specs.State.{Hand, Away, CoreState, MachineView, bucket_at, core_at, hand_at, sent_of, set_core, set_bucket, set_hand}
 use Rattle.handover_core.specs.declared.bucket_state.BucketState.{BucketState}
 use Rattle.handover_core.specs.Machine.{end_sent, step, post, met, freed, leave, claimed_hand, claiming}
-use Rattle.handover_core.specs.MachineDesk.{IsMachineDesk}
+use Rattle.handover_core.specs.MachineDispatcher.{IsMachineDispatcher}
 use Rattle.handover_core.proofs.Enabled.{IsEnabled}
 use Rattle.handover_core.specs.Sound.{IsShaped, IsStreamed}
 use Rattle.handover_core.proofs.Frames.{part-set, part-same, entry-same, end_sent-item, end_sent-end}
 use Rattle.handover_core.proofs.Cases.{by_take, by_claim, by_release}
 use Rattle.handover_core.proofs.Ends.{no_end-open}
 use Rattle.handover_core.proofs.Streams.{stream-here, stream-away}
-use Rattle.handover_core.proofs.Desk.{IsDesk-same, legal-post}
-use Rattle.handover_core.proofs.MachineDesks.{send_keeps, move_keeps, place_keeps}
+use Rattle.handover_core.proofs.DispatcherSide.{IsDispatcherSide-same, legal-post}
+use Rattle.handover_core.proofs.MachineDispatchers.{send_keeps, move_keeps, place_keeps}
 
 -- an item more on a core's queue
 post-streams : (m : MachineView) (o : ℕ) (x : Item) (c : ℕ) → o < length m.cores → (core_at m c).taken ++ (core_at m c).queue ≡ stream c m.dispatched → (core_at m o).taken ++ (core_at m o).queue ≡ stream o m.dispatched
@@ -43,8 +43,8 @@ false-true a f t = cc
 pub send-streamed : (m : MachineView) → IsShaped m → IsStreamed m → IsEnabled m Send → end_sent m ≡ false → IsStreamed (step m Send)
 send-streamed m h s e o = record {
   streams = λ c. post-streams m1 (bucket_at m q).owner item c (h.owners q (h.packets m.sent e.0)) (s.streams c) (s.streams (bucket_at m q).owner);
-  legal = desk.legal;
-  desk = λ _. desk;
+  legal = dispatcher.legal;
+  dispatcher = λ _. dispatcher;
   ends = λ t. absurd (false-true (end_sent m) o (sym (end_sent-item m.dispatched (bucket_at m q).owner (kind_at (bucket_at m q).start (sent_of m q)) q (sent_of m q)) ∙ t));
 } where
   q : ℕ
@@ -59,27 +59,27 @@ send-streamed m h s e o = record {
   few : sent_of m q < 2 ^ 32 - 1
   few = let a = sent_of-le m q h.sent in let b = h.few in let d = e.0 in omega arith
 
-  desk : IsMachineDesk (step m Send)
-  desk = send_keeps m (s.desk o) e.0 few
+  dispatcher : IsMachineDispatcher (step m Send)
+  dispatcher = send_keeps m (s.dispatcher o) e.0 few
 
 pub move-streamed : (m : MachineView) (b to : ℕ) → IsShaped m → IsStreamed m → IsEnabled m (Move b to) → IsStreamed (step m (Move b to))
 move-streamed m b to h s e = record {
   streams = λ c. post-streams (record m { free = m.free - 1; moves = m.moves - 1 }) (bucket_at m b).owner (Of Mark b (sent_of m b)) c (h.owners b e.0) (s.streams c) (s.streams (bucket_at m b).owner);
-  legal = desk.legal;
-  desk = λ _. desk;
+  legal = dispatcher.legal;
+  dispatcher = λ _. dispatcher;
   ends = λ t. absurd (false-true (end_sent m) e.7 (sym (end_sent-item m.dispatched (bucket_at m b).owner Mark b (sent_of m b)) ∙ t));
 } where
-  desk : IsMachineDesk (step m (Move b to))
-  desk = move_keeps m b to (s.desk e.7) e.0 e.3 (λ i. e.2 (sym i))
+  dispatcher : IsMachineDispatcher (step m (Move b to))
+  dispatcher = move_keeps m b to (s.dispatcher e.7) e.0 e.3 (λ i. e.2 (sym i))
 
 pub place-streamed : (m : MachineView) (b to : ℕ) → IsStreamed m → IsEnabled m (Place b to) → IsStreamed (step m (Place b to))
-place-streamed m b to s e = record { streams = s.streams; legal = s.legal; desk = λ o. place_keeps m b to (s.desk o) e.0 e.3 (λ i. e.2 (sym i)); ends = s.ends }
+place-streamed m b to s e = record { streams = s.streams; legal = s.legal; dispatcher = λ o. place_keeps m b to (s.dispatcher o) e.0 e.3 (λ i. e.2 (sym i)); ends = s.ends }
 
 pub send_end-streamed : (m : MachineView) (c : ℕ) → IsStreamed m → IsEnabled m (SendEnd c) → IsStreamed (step m (SendEnd c))
 send_end-streamed m c s e = record {
   streams = λ d. post-streams m c End d e.0 (s.streams d) (s.streams c);
   legal = λ d. legal-post m.dispatched c End d (s.legal d) (no_end-open c m.dispatched e.2);
-  desk = λ o. absurd (false-true (end_sent (step m (SendEnd c))) o (end_sent-end m.dispatched c));
+  dispatcher = λ o. absurd (false-true (end_sent (step m (SendEnd c))) o (end_sent-end m.dispatched c));
   ends = λ _. e.1;
 }
 
@@ -88,7 +88,7 @@ pub bucket-streamed : (m : MachineView) (b : ℕ) (s : BucketState) → b < leng
 bucket-streamed m b s l o st t = record {
   streams = t.streams;
   legal = t.legal;
-  desk = λ n. IsDesk-same (λ k. (bucket_at m k).owner) (sent_of m) (λ k. (bucket_at m k).start) (λ k. (bucket_at (set_bucket m b s) k).owner) (sent_of m) (λ k. (bucket_at (set_bucket m b s) k).start) m.dispatched (t.desk n)
+  dispatcher = λ n. IsDispatcherSide-same (λ k. (bucket_at m k).owner) (sent_of m) (λ k. (bucket_at m k).start) (λ k. (bucket_at (set_bucket m b s) k).owner) (sent_of m) (λ k. (bucket_at (set_bucket m b s) k).start) m.dispatched (t.dispatcher n)
       (λ k. entry-same (λ (x : BucketState). x.owner) m b s k l o) (λ k. refl) (λ k. entry-same (λ (x : BucketState). x.start) m b s k l st);
   ends = t.ends;
 }
@@ -98,13 +98,13 @@ pub core-streamed : (m : MachineView) (c : ℕ) (s : CoreState) → c < length m
 core-streamed m c s l e t = record {
   streams = λ d. part-same (λ (x : CoreState). x.taken ++ x.queue) m c s d l e ∙ t.streams d;
   legal = t.legal;
-  desk = t.desk;
+  dispatcher = t.dispatcher;
   ends = t.ends;
 }
 
 -- a count is no part of the streams
 pub counts-streamed : (m : MachineView) (free claims releases : ℕ) → IsStreamed m → IsStreamed (record m { free = free; claims = claims; releases = releases })
-counts-streamed m free claims releases t = record { streams = t.streams; legal = t.legal; desk = t.desk; ends = t.ends }
+counts-streamed m free claims releases t = record { streams = t.streams; legal = t.legal; dispatcher = t.dispatcher; ends = t.ends }
 
 -- the worker's events
 

@@ -9,7 +9,7 @@ use Rattle.handover_core.specs.declared.item.Item.TheVariants.{Of, End}
 use Rattle.handover_core.specs.Legal.{Stand, new, stand_by, stand_from, is_open, Follows, Legal}
 use Rattle.handover_core.specs.Dispatch.{stream}
 use Rattle.handover_core.specs.declared.post.Post.{Post}
-use Rattle.handover_core.specs.Picture.{stand_at}
+use Rattle.handover_core.specs.Stands.{stand_at}
 
 -- a legal list stays legal with one more item that may follow, and so is each prefix of one
 pub Legal-push : (xs : List Item) (x : Item) → Legal xs → Follows xs x → Legal (xs ++ x ∷ [])

@@ -17,7 +17,7 @@ use Rattle.handover_core.specs.State.{Hand, Away, Waiting, Held, Leaving, CoreSt
 use Rattle.handover_core.specs.Machine.{has_end, step, post, met, freed, leave, shelf_done, claimed_hand}
 use Rattle.handover_core.specs.Bucket.{places_from}
 use Rattle.handover_core.proofs.Enabled.{IsEnabled}
-use Rattle.handover_core.specs.Sound.{sight, AreOf, IsSound}
+use Rattle.handover_core.specs.Sound.{bucket_snapshot, AreOf, IsSound}
 use Rattle.handover_core.specs.Promises.{Meets}
 use Rattle.handover_core.specs.Neighbours.{place_after, FitsTaken, AreTaken}
 use Rattle.handover_core.proofs.Cases.{by_take, by_claim, by_release}
@@ -116,7 +116,7 @@ claim-run first done (suc n) d rest e f =
 claim-taken : (m : MachineView) (c b : ℕ) → IsSound m → IsEnabled m (Claim c b) → AreTaken m → AreTaken (step m (Claim c b))
 claim-taken m c b s i t = by_claim AreTaken m c b i.2
     (λ first rest e w.
-    let f = claim-meets (sight m b) c first rest e w (s.buckets.buckets b i.1) in
+    let f = claim-meets (bucket_snapshot m b) c first rest e w (s.buckets.buckets b i.1) in
     let g : first ∷ rest ≡ places_from f.0 f.1 = (let x = sym e ∙ f.3 in cc) in
     let st : stand_from b new (core_at m c).taken ≡ within (place_after (first ∷ rest)) = subst (λ (h : Hand). FitsTaken h (has_end (core_at m c).taken) (stand_from b new (core_at m c).taken)) e (t c b i.1) in
     let d : place_after (first ∷ rest) ≡ shelf_done (bucket_at m b).shelf + length (first ∷ rest) = claim-run first f.0 f.1 (shelf_done (bucket_at m b).shelf) rest g (ap shelf_done f.2) in

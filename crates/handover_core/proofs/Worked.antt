@@ -9,12 +9,12 @@ use Rattle.handover_core.specs.declared.item.Item.{Item}
 use Rattle.handover_core.specs.declared.item.Item.TheVariants.{Of}
 use Rattle.handover_core.specs.State.{Hand, Away, Waiting, Held, Leaving, CoreState, MachineView, bucket_at, core_at, hand_at, hand_in}
 use Rattle.handover_core.specs.Machine.{took, met, leave}
-use Rattle.handover_core.specs.Bucket.{piece, places_from, Sight}
+use Rattle.handover_core.specs.Bucket.{piece, places_from, BucketSnapshot}
 use Rattle.handover_core.proofs.Turns.{upd, after_take}
-use Rattle.handover_core.specs.Sound.{pieces, sight}
-use Rattle.handover_core.specs.Promises.{claimed_at, IsOnShelf, IsInHand, IsHeldOnce, Meets, worked_of, done_in, done_among, done_at, worked}
+use Rattle.handover_core.specs.Sound.{pieces, bucket_snapshot}
+use Rattle.handover_core.specs.Promises.{hand_claimed_at, IsOnShelf, IsInHand, IsHeldOnce, Meets, worked_of, done_in, done_among, done_at, worked}
 use Rattle.handover_core.proofs.Buckets.{IsSame, upd-here}
-use Rattle.handover_core.proofs.WorkerSights.{take-here}
+use Rattle.handover_core.proofs.WorkerSnapshots.{take-here}
 
 -- the hand has a table with so many packets done
 pub Has : ℕ → Hand → Type 0
@@ -23,7 +23,7 @@ Has d (Waiting places) = ⊥
 Has d (Held start done) = done ≡ d
 Has d (Leaving start done) = done ≡ d
 
-has-claimed : (d : ℕ) (h : Hand) → Has d h → claimed_at h ≡ None → ⊥
+has-claimed : (d : ℕ) (h : Hand) → Has d h → hand_claimed_at h ≡ None → ⊥
 unfolding Has
 has-claimed d Away f e = f
 has-claimed d (Waiting places) f e = f
@@ -37,13 +37,13 @@ has-done d (Waiting places) rest f = absurd f
 has-done d (Held a x) rest f = f
 has-done d (Leaving a x) rest f = f
 
-free-done : (h : Hand) (rest : ℕ) → claimed_at h ≡ None → done_in h rest ≡ rest
+free-done : (h : Hand) (rest : ℕ) → hand_claimed_at h ≡ None → done_in h rest ≡ rest
 free-done Away rest e = refl
 free-done (Waiting places) rest e = refl
 free-done (Held a x) rest e = absurd (cc)
 free-done (Leaving a x) rest e = absurd (cc)
 
-claimed-has : (h : Hand) (s : ℕ) → claimed_at h ≡ Some s → (d : ℕ) × Has d h
+claimed-has : (h : Hand) (s : ℕ) → hand_claimed_at h ≡ Some s → (d : ℕ) × Has d h
 unfolding Has
 claimed-has Away s e = absurd (cc)
 claimed-has (Waiting places) s e = absurd (cc)
@@ -61,11 +61,11 @@ unfolding Has
 has-held-leaving start d = refl
 
 -- the only core that has the table
-hand_of : List CoreState → ℕ → ℕ → Hand
-hand_of cores b c = hand_in (get_or cores c (record { queue = []; taken = []; hands = [] })) b
+hand_of_duty : List CoreState → ℕ → ℕ → Hand
+hand_of_duty cores b c = hand_in (get_or cores c (record { queue = []; taken = []; hands = [] })) b
 
-among-is : (b : ℕ) (cores : List CoreState) (c d : ℕ) → Has d (hand_of cores b c) → ((x : ℕ) → x ≢ c → claimed_at (hand_of cores b x) ≡ None) → done_among b cores ≡ d
-unfolding hand_of Has
+among-is : (b : ℕ) (cores : List CoreState) (c d : ℕ) → Has d (hand_of_duty cores b c) → ((x : ℕ) → x ≢ c → hand_claimed_at (hand_of_duty cores b x) ≡ None) → done_among b cores ≡ d
+unfolding hand_of_duty Has
 among-is b [] c d f alone = absurd f
 among-is b (core ∷ cores) zero d f alone = has-done d (hand_in core b) (done_among b cores) f
 among-is b (core ∷ cores) (suc c) d f alone =
@@ -76,7 +76,7 @@ pub worked-shelf : (m : MachineView) (b d : ℕ) → (bucket_at m b).shelf ≡ S
 worked-shelf m b d e = ap (done_at m b) e
 
 pub worked-has : (m : MachineView) (b c d : ℕ) → IsHeldOnce m → b < length m.buckets → Has d (hand_at m c b) → worked m b ≡ d
-unfolding hand_of
+unfolding hand_of_duty
 worked-has m b c d o l f = ⊎_elim
     (λ (s : IsOnShelf m b). absurd (has-claimed d (hand_at m c b) f (s.hands c)))
     (λ (s : IsInHand m b). ap (done_at m b) s.shelf ∙ ⊎_elim
@@ -85,11 +85,11 @@ worked-has m b c d o l f = ⊎_elim
     (o b l)
 
 -- what leaves the number of packets worked as it was
-pub record IsIdle (v w : Sight) : Type 0 where
+pub record IsIdle (v w : BucketSnapshot) : Type 0 where
   pub shelf : w.shelf ≡ v.shelf
   pub hands : (c d : ℕ) → Has d (v.hand c) → Has d (w.hand c)
 
-pub worked-idle : (m w : MachineView) (b : ℕ) → IsHeldOnce m → IsHeldOnce w → b < length m.buckets → b < length w.buckets → IsIdle (sight m b) (sight w b) → worked w b ≡ worked m b
+pub worked-idle : (m w : MachineView) (b : ℕ) → IsHeldOnce m → IsHeldOnce w → b < length m.buckets → b < length w.buckets → IsIdle (bucket_snapshot m b) (bucket_snapshot w b) → worked w b ≡ worked m b
 worked-idle m w b o p l lw i = ⊎_elim
     (λ (s : IsOnShelf m b). worked-shelf w b s.start (i.shelf ∙ s.shelf) ∙ sym (worked-shelf m b s.start s.shelf))
     (λ (s : IsInHand m b).
@@ -97,10 +97,10 @@ worked-idle m w b o p l lw i = ⊎_elim
     worked-has w b s.core h.0 p lw (i.hands s.core h.0 h.1) ∙ sym (worked-has m b s.core h.0 o l h.1))
     (o b l)
 
-pub idle-same : (v u w : Sight) → IsSame u w → IsIdle v u → IsIdle v w
+pub idle-same : (v u w : BucketSnapshot) → IsSame u w → IsIdle v u → IsIdle v w
 idle-same v u w s i = record { shelf = s.shelf ∙ i.shelf; hands = λ c d f. subst (Has d) (sym (s.hand c)) (i.hands c d f) }
 
-pub idle-hand : (v : Sight) (c : ℕ) (h : Hand) → ((d : ℕ) → Has d (v.hand c) → Has d h) → (x d : ℕ) → Has d (v.hand x) → Has d (upd v.hand c h x)
+pub idle-hand : (v : BucketSnapshot) (c : ℕ) (h : Hand) → ((d : ℕ) → Has d (v.hand c) → Has d h) → (x d : ℕ) → Has d (v.hand x) → Has d (upd v.hand c h x)
 idle-hand v c h f x d g = by_test x c (λ t. Has d (if t then h else v.hand x)) (λ e. f d (subst (λ (y : ℕ). Has d (v.hand y)) e g)) (λ _. g)
 
 pub has-leave : (h : Hand) (d : ℕ) → Has d h → Has d (leave h)
@@ -131,19 +131,19 @@ pub take-worked : (m : MachineView) (c : ℕ) (kind : Kind) (b place : ℕ) (q :
 unfolding Has
 take-worked m c First b place q o p l lb lh e =
     adds-none (worked m b) (worked (took m c (Of First b place ∷ q)) b) (worked_of (hand_at m c b) (Of First b place))
-    (worked-idle m (took m c (Of First b place ∷ q)) b o p lb lb (idle-same (sight m b) (after_take (sight m b) c (piece First place) (pieces b q)) (sight (took m c (Of First b place ∷ q)) b) (take-here m c First b place q l lh)
-    (record { shelf = refl; hands = λ x d f. idle-hand (sight m b) c (met (hand_at m c b) First place) (λ d f. absurd (subst (Has d) e f)) x d f })))
+    (worked-idle m (took m c (Of First b place ∷ q)) b o p lb lb (idle-same (bucket_snapshot m b) (after_take (bucket_snapshot m b) c (piece First place) (pieces b q)) (bucket_snapshot (took m c (Of First b place ∷ q)) b) (take-here m c First b place q l lh)
+    (record { shelf = refl; hands = λ x d f. idle-hand (bucket_snapshot m b) c (met (hand_at m c b) First place) (λ d f. absurd (subst (Has d) e f)) x d f })))
     (ap (λ (h : Hand). worked_of h (Of First b place)) e)
 take-worked m c Mark b place q o p l lb lh e =
     adds-none (worked m b) (worked (took m c (Of Mark b place ∷ q)) b) (worked_of (hand_at m c b) (Of Mark b place))
-    (worked-idle m (took m c (Of Mark b place ∷ q)) b o p lb lb (idle-same (sight m b) (after_take (sight m b) c (piece Mark place) (pieces b q)) (sight (took m c (Of Mark b place ∷ q)) b) (take-here m c Mark b place q l lh)
-    (record { shelf = refl; hands = λ x d f. idle-hand (sight m b) c (met (hand_at m c b) Mark place) (λ d f. subst (λ (h : Hand). Has d (met h Mark place)) (sym e.1) (subst (Has d) e.1 f)) x d f })))
+    (worked-idle m (took m c (Of Mark b place ∷ q)) b o p lb lb (idle-same (bucket_snapshot m b) (after_take (bucket_snapshot m b) c (piece Mark place) (pieces b q)) (bucket_snapshot (took m c (Of Mark b place ∷ q)) b) (take-here m c Mark b place q l lh)
+    (record { shelf = refl; hands = λ x d f. idle-hand (bucket_snapshot m b) c (met (hand_at m c b) Mark place) (λ d f. subst (λ (h : Hand). Has d (met h Mark place)) (sym e.1) (subst (Has d) e.1 f)) x d f })))
     (ap (λ (h : Hand). worked_of h (Of Mark b place)) e.1)
 take-worked m c Next b place q o p l lb lh e = ⊎_elim
     (λ (w : (places : List ℕ) × (hand_at m c b ≡ Waiting places)).
     adds-none (worked m b) (worked (took m c (Of Next b place ∷ q)) b) (worked_of (hand_at m c b) (Of Next b place))
-    (worked-idle m (took m c (Of Next b place ∷ q)) b o p lb lb (idle-same (sight m b) (after_take (sight m b) c (piece Next place) (pieces b q)) (sight (took m c (Of Next b place ∷ q)) b) (take-here m c Next b place q l lh)
-    (record { shelf = refl; hands = λ x d f. idle-hand (sight m b) c (met (hand_at m c b) Next place) (λ d f. absurd (subst (Has d) w.1 f)) x d f })))
+    (worked-idle m (took m c (Of Next b place ∷ q)) b o p lb lb (idle-same (bucket_snapshot m b) (after_take (bucket_snapshot m b) c (piece Next place) (pieces b q)) (bucket_snapshot (took m c (Of Next b place ∷ q)) b) (take-here m c Next b place q l lh)
+    (record { shelf = refl; hands = λ x d f. idle-hand (bucket_snapshot m b) c (met (hand_at m c b) Next place) (λ d f. absurd (subst (Has d) w.1 f)) x d f })))
     (ap (λ (h : Hand). worked_of h (Of Next b place)) w.1))
     (λ (w : (start : ℕ) × (hand_at m c b ≡ Held start place)).
     let before = worked-has m b c place o lb (subst (Has place) (sym w.1) refl) in

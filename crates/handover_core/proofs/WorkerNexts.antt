@@ -13,9 +13,9 @@ use Rattle.handover_core.specs.declared.worker_core.WorkerCore.{WorkerCore}
 use Rattle.handover_core.specs.declared.machine.Machine.TheInside.{Inside}
 use Rattle.handover_core.specs.State.{Hand, Waiting, Held, CoreState, MachineView, core_at, set_core}
 use Rattle.handover_core.specs.Machine.{enabled, step, took, freed, is_empty}
-use Rattle.handover_core.specs.Bucket.{Piece, piece, nexts, opening, places_from, Sight, Role, Idle, Awaits, Works, Finishes, Fits, home, working, passing, over, Stage, IsIn}
-use Rattle.handover_core.specs.Cores.{hand_of, CanMeet, core_state, HaveRoom, HasRoom, core_took, cells_freed, CanTake}
-use Rattle.handover_core.specs.Sound.{pieces, sight, AreOf}
+use Rattle.handover_core.specs.Bucket.{Piece, piece, nexts, opening, places_from, BucketSnapshot, Task, Idle, Awaits, Works, Finishes, Fits, home, working, passing, over, Stage, IsIn}
+use Rattle.handover_core.specs.Cores.{hand_of_duty, CanMeet, core_state, HaveRoom, HasRoom, core_took, cells_freed, CanTake}
+use Rattle.handover_core.specs.Sound.{pieces, bucket_snapshot, AreOf}
 use Rattle.handover_core.specs.Inside.{state_of, most_items, IsMachine}
 use Rattle.handover_core.proofs.Enabled.{is_enabled}
 use Rattle.handover_core.proofs.Cases.{by_take}
@@ -38,14 +38,14 @@ step-take v c e = by_take (λ w. w ≡ set_core (record v { free = v.free + cell
 
 -- what a core can meet
 
--- the role of a core, case by case
-by_role : (v : Sight) (g : Stage) (c : ℕ) (P : Type 0) → IsIn g v → (Fits Idle (v.ended c) (v.hand c) (v.queue c) → P) → (Fits (Awaits v.start v.sent) (v.ended c) (v.hand c) (v.queue c) → P)
+-- the task of a core, case by case
+by_task : (v : BucketSnapshot) (g : Stage) (c : ℕ) (P : Type 0) → IsIn g v → (Fits Idle (v.ended c) (v.hand c) (v.queue c) → P) → (Fits (Awaits v.start v.sent) (v.ended c) (v.hand c) (v.queue c) → P)
     → (Fits (Works v.start v.sent) (v.ended c) (v.hand c) (v.queue c) → P) → ((r : ℕ) → v.start ≤ v.sent → Fits (Finishes r v.start) (v.ended c) (v.hand c) (v.queue c) → P) → P
-by_role v home c P i a b w d = by_test c v.owner (λ t. Fits (if t then Awaits v.start v.sent else Idle) (v.ended c) (v.hand c) (v.queue c) → P) (λ _ f. b f) (λ _ f. a f) (i.fits c)
-by_role v working c P i a b w d = by_test c v.owner (λ t. Fits (if t then Works v.start v.sent else Idle) (v.ended c) (v.hand c) (v.queue c) → P) (λ _ f. w f) (λ _ f. a f) (i.fits c)
-by_role v (passing p r) c P i a b w d = by_test c v.owner (λ t. Fits (if t then Awaits v.start v.sent else (if c == p then Finishes r v.start else Idle)) (v.ended c) (v.hand c) (v.queue c) → P) (λ _ f. b f)
+by_task v home c P i a b w d = by_test c v.owner (λ t. Fits (if t then Awaits v.start v.sent else Idle) (v.ended c) (v.hand c) (v.queue c) → P) (λ _ f. b f) (λ _ f. a f) (i.fits c)
+by_task v working c P i a b w d = by_test c v.owner (λ t. Fits (if t then Works v.start v.sent else Idle) (v.ended c) (v.hand c) (v.queue c) → P) (λ _ f. w f) (λ _ f. a f) (i.fits c)
+by_task v (passing p r) c P i a b w d = by_test c v.owner (λ t. Fits (if t then Awaits v.start v.sent else (if c == p then Finishes r v.start else Idle)) (v.ended c) (v.hand c) (v.queue c) → P) (λ _ f. b f)
     (λ _ f. by_test c p (λ t. Fits (if t then Finishes r v.start else Idle) (v.ended c) (v.hand c) (v.queue c) → P) (λ _ f. d r i.bounds.2 f) (λ _ f. a f) f) (i.fits c)
-by_role v over c P i a b w d = a (i.fits c)
+by_task v over c P i a b w d = a (i.fits c)
 
 next-run : (p n place : ℕ) (rest : List Piece) → piece Next place ∷ rest ≡ nexts p n → (place ≡ p) × (0 < n)
 next-run p zero place rest q = absurd (cc)
@@ -64,22 +64,22 @@ same-places a n b zero l e = absurd (omega arith)
 same-places a zero b (suc k) l e = absurd (cc)
 same-places a (suc n) b (suc k) l e = (cc, let x = sym (length-places_from a (suc n)) ∙ (ap (λ (z : List ℕ). length z) e ∙ length-places_from b (suc k)) in omega arith)
 
-parks-next : (r : Role) (e : Bool) (first count place top : ℕ) (rest : List Piece) → (s : ℕ) → r ≡ Awaits s top → Fits (Awaits s top) e (Waiting (places_from first count)) (piece Next place ∷ rest) → (place ≡ first + count) × (count + 1 ≤ top)
+parks-next : (r : Task) (e : Bool) (first count place top : ℕ) (rest : List Piece) → (s : ℕ) → r ≡ Awaits s top → Fits (Awaits s top) e (Waiting (places_from first count)) (piece Next place ∷ rest) → (place ≡ first + count) × (count + 1 ≤ top)
 parks-next r e first count place top rest s i f =
     let x = same-places first count s f.0 f.2 f.4 in
     let y = next-run (s + f.0) f.1 place rest f.5 in
     let a = x.0 in let b = x.1 in let c = y.0 in let d = y.1 in let g = f.3 in
     (omega arith, omega arith)
 
-parks-fits : (v : Sight) (g : Stage) (c first count place : ℕ) (rest : List Piece) → IsIn g v → v.hand c ≡ Waiting (places_from first count) → v.queue c ≡ piece Next place ∷ rest → (place ≡ first + count) × (count + 1 ≤ v.sent)
-parks-fits v g c first count place rest i h q = by_role v g c ((place ≡ first + count) × (count + 1 ≤ v.sent)) i
+parks-fits : (v : BucketSnapshot) (g : Stage) (c first count place : ℕ) (rest : List Piece) → IsIn g v → v.hand c ≡ Waiting (places_from first count) → v.queue c ≡ piece Next place ∷ rest → (place ≡ first + count) × (count + 1 ≤ v.sent)
+parks-fits v g c first count place rest i h q = by_task v g c ((place ≡ first + count) × (count + 1 ≤ v.sent)) i
     (λ f. absurd (subst (λ (x : Hand). Fits Idle (v.ended c) x (v.queue c)) h f))
     (λ f. parks-next (Awaits v.start v.sent) (v.ended c) first count place v.sent rest v.start refl (subst (λ (z : List Piece). Fits (Awaits v.start v.sent) (v.ended c) (Waiting (places_from first count)) z) q (subst (λ (x : Hand). Fits (Awaits v.start v.sent) (v.ended c) x (v.queue c)) h f)))
     (λ f. absurd (subst (λ (x : Hand). Fits (Works v.start v.sent) (v.ended c) x (v.queue c)) h f))
     (λ r l f. absurd (subst (λ (x : Hand). Fits (Finishes r v.start) (v.ended c) x (v.queue c)) h f))
 
-holds-fits : (v : Sight) (g : Stage) (c start done place : ℕ) (rest : List Piece) → IsIn g v → v.hand c ≡ Held start done → v.queue c ≡ piece Next place ∷ rest → done + 1 ≤ v.sent
-holds-fits v g c start done place rest i h q = by_role v g c (done + 1 ≤ v.sent) i
+holds-fits : (v : BucketSnapshot) (g : Stage) (c start done place : ℕ) (rest : List Piece) → IsIn g v → v.hand c ≡ Held start done → v.queue c ≡ piece Next place ∷ rest → done + 1 ≤ v.sent
+holds-fits v g c start done place rest i h q = by_task v g c (done + 1 ≤ v.sent) i
     (λ f. absurd (subst (λ (x : Hand). Fits Idle (v.ended c) x (v.queue c)) h f))
     (λ f. absurd (subst (λ (x : Hand). Fits (Awaits v.start v.sent) (v.ended c) x (v.queue c)) h f))
     (λ f. let k = subst (λ (z : List Piece). Fits (Works v.start v.sent) (v.ended c) (Held start done) z) q (subst (λ (x : Hand). Fits (Works v.start v.sent) (v.ended c) x (v.queue c)) h f) in
@@ -87,7 +87,7 @@ holds-fits v g c start done place rest i h q = by_role v g c (done + 1 ≤ v.sen
     (λ r l f. let k = subst (λ (z : List Piece). Fits (Finishes r v.start) (v.ended c) (Held start done) z) q (subst (λ (x : Hand). Fits (Finishes r v.start) (v.ended c) x (v.queue c)) h f) in
     let y = next-mark done k.0 v.start place rest k.4 in let z = k.3 in omega arith)
 
-meet : (v : Sight) (g : Stage) (c place : ℕ) (rest : List Piece) (d : Duty) (kind : Kind) → IsIn g v → v.sent < 2 ^ 32 → hand_of d ≡ v.hand c → v.queue c ≡ piece kind place ∷ rest → CanMeet d kind place
+meet : (v : BucketSnapshot) (g : Stage) (c place : ℕ) (rest : List Piece) (d : Duty) (kind : Kind) → IsIn g v → v.sent < 2 ^ 32 → hand_of_duty d ≡ v.hand c → v.queue c ≡ piece kind place ∷ rest → CanMeet d kind place
 meet v g c place rest Nothing kind i l h q = tt
 meet v g c place rest (Leaves start done) kind i l h q = tt
 meet v g c place rest (Parks first count) First i l h q = tt
@@ -106,7 +106,7 @@ can-take i c w (Of kind b place ∷ q) m l iw e ne =
     let ld = duty-index i c b w m l lb iw in
     let g = m.sound.buckets.buckets b lb in (
       ld,
-      λ d. meet (sight v b) g.stage c place (pieces b q) (get_or w.duties.items b d) kind g.is_in
+      λ d. meet (bucket_snapshot v b) g.stage c place (pieces b q) (get_or w.duties.items b d) kind g.is_in
           (let x = sent_of-le v b m.sound.shaped.sent in let y = m.sound.shaped.few in let z = m.sound.shaped.sent in omega arith)
           (duty-at i.cores.items c b w (get_or w.duties.items b d) l ld iw (get_or_default w.duties.items b d (get_or w.duties.items b d) ld))
           (ap (pieces b) e ∙ pieces-here b kind place q),

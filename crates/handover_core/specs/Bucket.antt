@@ -15,7 +15,7 @@ abbrev pub piece : Kind → ℕ → Piece
 piece kind place = record { kind = kind; place = place }
 
 -- one bucket of a state: its entry, how many of its packets were sent, its ended stints, and for each core what it does with the bucket, which items of it are queued there, and whether the core took End
-pub record Sight : Type 0 where
+pub record BucketSnapshot : Type 0 where
   pub owner : ℕ
   pub start : ℕ
   pub word : ℕ
@@ -42,14 +42,14 @@ places_from place zero = []
 places_from place (suc n) = place ∷ places_from (place + 1) n
 
 -- what a core has to do with the bucket: nothing; to claim it for the stint with the places from one to another; to work that stint as its owner; to finish that stint, up to the mark
-pub data Role : Type 0 where
-  Idle : Role
-  Awaits : (from to : ℕ) → Role
-  Works : (from to : ℕ) → Role
-  Finishes : (from to : ℕ) → Role
+pub data Task : Type 0 where
+  Idle : Task
+  Awaits : (from to : ℕ) → Task
+  Works : (from to : ℕ) → Task
+  Finishes : (from to : ℕ) → Task
 
--- a core in that role, that took End or not, does this with the bucket, and these items of it are queued there
-abbrev pub Fits : Role → Bool → Hand → List Piece → Type 0
+-- a core in that task, that took End or not, does this with the bucket, and these items of it are queued there
+abbrev pub Fits : Task → Bool → Hand → List Piece → Type 0
 Fits Idle ended Away queue = queue ≡ []
 Fits (Awaits from to) ended Away queue = (n : ℕ) × (from + n ≡ to) × (queue ≡ opening from n)
 Fits (Awaits from to) ended (Waiting places) queue =
@@ -60,7 +60,7 @@ Fits (Works from to) ended (Leaving start done) queue = (start ≡ from) × (fro
 Fits (Finishes from to) ended (Held start done) queue =
     (n : ℕ) × (start ≡ from) × (from < done) × (done + n ≡ to) × (queue ≡ nexts done n ++ piece Mark to ∷ []) × (ended ≡ false)
 Fits (Finishes from to) ended (Leaving start done) queue = (start ≡ from) × (from < done) × (done ≡ to) × (queue ≡ [])
-Fits role ended hand queue = ⊥
+Fits task ended hand queue = ⊥
 
 -- where the bucket's table is: on the shelf for the newest stint; with the owner, who works that stint; with the core of the stint before it; on the shelf for good
 pub data Stage : Type 0 where
@@ -69,12 +69,12 @@ pub data Stage : Type 0 where
   passing : (core from : ℕ) → Stage
   over : Stage
 
--- the role of a core, where the bucket is `owner`'s, with k packets sent and its newest stint from s on
-abbrev pub role_in : Stage → ℕ → ℕ → ℕ → ℕ → Role
-role_in home owner s k c = if c == owner then Awaits s k else Idle
-role_in working owner s k c = if c == owner then Works s k else Idle
-role_in (passing core from) owner s k c = if c == owner then Awaits s k else (if c == core then Finishes from s else Idle)
-role_in over owner s k c = Idle
+-- the task of a core, where the bucket is `owner`'s, with k packets sent and its newest stint from s on
+abbrev pub task_in : Stage → ℕ → ℕ → ℕ → ℕ → Task
+task_in home owner s k c = if c == owner then Awaits s k else Idle
+task_in working owner s k c = if c == owner then Works s k else Idle
+task_in (passing core from) owner s k c = if c == owner then Awaits s k else (if c == core then Finishes from s else Idle)
+task_in over owner s k c = Idle
 
 -- the word in a stage, with k packets sent and the newest stint from s on
 abbrev pub word_in : Stage → ℕ → ℕ → ℕ
@@ -95,22 +95,22 @@ abbrev pub stint_of : ℕ → ℕ → ℕ → Stint
 stint_of core from to = record { core = core; from = from; to = to }
 
 -- what a stage asks of the numbers: the core that a bucket passes from has its last ended stint; over, the owner took End
-abbrev pub Bounds : Stage → Sight → Type 0
+abbrev pub Bounds : Stage → BucketSnapshot → Type 0
 Bounds home v = v.start ≤ v.sent
 Bounds working v = v.start < v.sent
 Bounds (passing core from) v =
     (core ≢ v.owner) × (from < v.start) × (v.start ≤ v.sent) × ((front : List Stint) × (v.stints ≡ front ++ stint_of core from v.start ∷ []))
 Bounds over v = (v.start < v.sent) × (v.ended v.owner ≡ true)
 
--- the bucket is in this stage: word, shelf and numbers are its, and each core fits its role
-pub record IsIn (g : Stage) (v : Sight) : Type 0 where
+-- the bucket is in this stage: word, shelf and numbers are its, and each core fits its task
+pub record IsIn (g : Stage) (v : BucketSnapshot) : Type 0 where
   pub word : v.word ≡ word_in g v.start v.sent
   pub shelf : v.shelf ≡ shelf_in g v.start v.sent
   pub bounds : Bounds g v
-  pub fits : (c : ℕ) → Fits (role_in g v.owner v.start v.sent c) (v.ended c) (v.hand c) (v.queue c)
+  pub fits : (c : ℕ) → Fits (task_in g v.owner v.start v.sent c) (v.ended c) (v.hand c) (v.queue c)
 
 -- the bucket is in a stage, and its ended stints join 0 to its newest start
-pub record IsBucket (v : Sight) : Type 0 where
+pub record IsBucket (v : BucketSnapshot) : Type 0 where
   pub stage : Stage
   pub is_in : IsIn stage v
   pub joins : Joins 0 v.stints v.start

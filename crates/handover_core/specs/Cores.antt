@@ -13,11 +13,11 @@ use Rattle.handover_core.specs.Machine.{has_end, met, freed, leave}
 use Rattle.handover_core.specs.Bucket.{places_from}
 
 -- the packets that wait stand one behind the other
-abbrev pub hand_of : Duty → Hand
-hand_of Nothing = Away
-hand_of (Parks first count) = Waiting (places_from first count)
-hand_of (Holds start done) = Held start done
-hand_of (Leaves start done) = Leaving start done
+abbrev pub hand_of_duty : Duty → Hand
+hand_of_duty Nothing = Away
+hand_of_duty (Parks first count) = Waiting (places_from first count)
+hand_of_duty (Holds start done) = Held start done
+hand_of_duty (Leaves start done) = Leaving start done
 
 -- an item that comes next after those that wait, and whose number fits
 abbrev pub CanMeet : Duty → Kind → ℕ → Type 0
@@ -27,7 +27,7 @@ CanMeet duty kind place = Unit {0}
 
 -- a core in memory as the state sees it
 abbrev pub core_state : WorkerCore → CoreState
-core_state core = record { queue = core.queue.items; taken = core.taken.items; hands = map hand_of core.duties.items }
+core_state core = record { queue = core.queue.items; taken = core.taken.items; hands = map hand_of_duty core.duties.items }
 
 -- there is room for so many items on its queue and on its list, and it knows whether it took End
 pub record HasRoom (queued taken : ℕ) (core : WorkerCore) : Type 0 where

@@ -4,8 +4,8 @@ use Rattle.indirection.specs.declared.outcome.Outcome.{Outcome}
 use Rattle.indirection.specs.declared.outcome.Outcome.TheVariants.{Moved, Placed, Same, InPassage}
 use Rattle.indirection.specs.Each.{gather_from}
 use Rattle.indirection.specs.JournalView.{JournalView}
-use Rattle.indirection.specs.Tries.{ask_bucket, owner_after, tail_from}
-use Rattle.indirection.specs.Story.{Parcel, Step, Rounds, Tries, Sends, told, parcels_of, tries_of, count_in}
+use Rattle.indirection.specs.Tries.{ask_bucket}
+use Rattle.indirection.specs.Story.{Parcel, Step, Rounds, Tries, Sends, told, owner_then, start_then, sent_then}
 use Rattle.handover_core.specs.declared.item.Kind.{Kind}
 use Rattle.handover_core.specs.declared.item.Kind.TheVariants.{First, Next, Mark}
 use Rattle.handover_core.specs.declared.item.Item.{Item}
@@ -15,16 +15,6 @@ use Rattle.handover_core.specs.declared.item.Item.TheVariants.{Of, End}
 -- a packet is First where its place is the start of its stint
 abbrev pub kind_at : ℕ → ℕ → Kind
 kind_at start place = if place == start then First else Next
-
--- the owner of a bucket, its start and how many of its packets were sent, after these steps
-abbrev pub owner_then : List ℕ → List Step → ℕ → ℕ
-owner_then start before b = owner_after start (tries_of before) b
-
-abbrev pub start_then : List Step → ℕ → ℕ
-start_then before b = tail_from b 0 (tries_of before)
-
-abbrev pub sent_then : List Step → ℕ → ℕ
-sent_then before b = count_in b (parcels_of before)
 
 -- Moved sends a mark at its tail to the core that had the bucket
 abbrev pub mark_posts : ℕ → ℕ → Outcome → List Post

@@ -1,6 +1,6 @@
 -- Which lists of items may be sent to a core.
-use Rattle.std.specs.Prelude.{ℕ, ◌+◌, ◌^◌, ◌-◌, ◌<◌, ◌≡◌, List, [], ◌∷◌, Bool, true, false, ◌&&◌, if◌then◌else◌, ◌==◌, nat_lt}
-use Rattle.indirection.specs.Each.{Each, each_from}
+use Rattle.std.specs.Prelude.{ℕ, ◌+◌, ◌^◌, ◌-◌, ◌<◌, ◌≡◌, List, [], ◌∷◌, Bool, true, false, if◌then◌else◌, ◌==◌}
+use Rattle.indirection.specs.Each.{Each}
 use Rattle.handover_core.specs.declared.item.Kind.{Kind}
 use Rattle.handover_core.specs.declared.item.Kind.TheVariants.{First, Next, Mark}
 use Rattle.handover_core.specs.declared.item.Item.{Item}
@@ -46,18 +46,3 @@ Follows before End = is_open before ≡ true
 -- each item may follow those before it
 abbrev pub Legal : List Item → Type 0
 Legal list = Each Follows list
-
--- the same as tests
-abbrev pub continues : Stand → Kind → ℕ → Bool
-continues new First place = nat_lt place (2 ^ 32 - 1)
-continues (within n) Next place = (place == n) && nat_lt place (2 ^ 32 - 1)
-continues (within n) Mark place = place == n
-continues (past n) First place = nat_lt n place && nat_lt place (2 ^ 32 - 1)
-continues s kind place = false
-
-abbrev pub follows : List Item → Item → Bool
-follows before (Of kind bucket place) = is_open before && continues (stand_from bucket new before) kind place
-follows before End = is_open before
-
-abbrev pub legal : List Item → Bool
-legal list = each_from follows [] list

@@ -90,9 +90,9 @@ took m c (Of kind b place ∷ q) =
 took m c (End ∷ q) = set_core m c (record { queue = q; taken = (core_at m c).taken ++ End ∷ []; hands = map leave (core_at m c).hands })
 
 -- the places of the packets that wait
-abbrev pub parked : Hand → List ℕ
-parked (Waiting places) = places
-parked h = []
+abbrev pub waiting_places : Hand → List ℕ
+waiting_places (Waiting places) = places
+waiting_places h = []
 
 -- how many packets the table on the shelf has worked
 abbrev pub shelf_done : Option ℕ → ℕ
@@ -131,7 +131,7 @@ step m (Move b to) =
 step m (Place b to) = set_bucket m b (record (bucket_at m b) { owner = to })
 step m (SendEnd c) = post m c End
 step m (Take c) = took m c (core_at m c).queue
-step m (Claim c b) = claimed m c b (parked (hand_at m c b))
+step m (Claim c b) = claimed m c b (waiting_places (hand_at m c b))
 step m (Release c b) = released m c b (hand_at m c b)
 
 -- what an event sends, and to which core

@@ -9,7 +9,7 @@ use Rattle.handover_core.specs.State.{Hand, Away, Waiting, Held, Leaving, Machin
 use Rattle.handover_core.specs.Machine.{has_end, end_sent}
 use Rattle.handover_core.specs.Bucket.{stint_of}
 use Rattle.handover_core.specs.Sound.{ended_stints}
-use Rattle.handover_core.specs.Promises.{claimed_at}
+use Rattle.handover_core.specs.Promises.{hand_claimed_at}
 
 -- the core of the stint before the newest one has the table, which it claimed at that stint's start, and the mark at the newest start is on its queue or taken
 pub record IsPassing (m : MachineView) (b : ℕ) : Type 0 where
@@ -18,7 +18,7 @@ pub record IsPassing (m : MachineView) (b : ℕ) : Type 0 where
   pub front : List Stint
   pub last : ended_stints b 0 m.dispatched ≡ front ++ stint_of core from (bucket_at m b).start ∷ []
   pub word : (bucket_at m b).word ≡ 2 * from + 2
-  pub holds : claimed_at (hand_at m core b) ≡ Some from
+  pub holds : hand_claimed_at (hand_at m core b) ≡ Some from
   pub before : List Item
   pub behind : List Item
   pub mark : (core_at m core).taken ++ (core_at m core).queue ≡ before ++ Of Mark b (bucket_at m b).start ∷ behind

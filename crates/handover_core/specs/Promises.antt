@@ -8,21 +8,21 @@ use Rattle.handover_core.specs.declared.event.Event.TheVariants.{Look, Place, Ta
 use Rattle.handover_core.specs.Dispatch.{stream}
 use Rattle.handover_core.specs.Legal.{Legal}
 use Rattle.handover_core.specs.State.{Hand, Away, Waiting, Held, Leaving, CoreState, MachineView, bucket_at, core_at, hand_at, hand_in}
-use Rattle.handover_core.specs.Machine.{end_sent_to, parked, step}
+use Rattle.handover_core.specs.Machine.{end_sent_to, waiting_places, step}
 use Rattle.handover_core.specs.Bucket.{places_from}
 
 -- the place at which a core claimed the table that it has
-abbrev pub claimed_at : Hand → Option ℕ
-claimed_at (Held start done) = Some start
-claimed_at (Leaving start done) = Some start
-claimed_at h = None
+abbrev pub hand_claimed_at : Hand → Option ℕ
+hand_claimed_at (Held start done) = Some start
+hand_claimed_at (Leaving start done) = Some start
+hand_claimed_at h = None
 
 -- the table is on the shelf with the packets before `start` worked, and no core has it
 pub record IsOnShelf (m : MachineView) (b : ℕ) : Type 0 where
   pub start : ℕ
   pub word : (bucket_at m b).word ≡ 2 * start + 1
   pub shelf : (bucket_at m b).shelf ≡ Some start
-  pub hands : (c : ℕ) → claimed_at (hand_at m c b) ≡ None
+  pub hands : (c : ℕ) → hand_claimed_at (hand_at m c b) ≡ None
 
 -- no table is on the shelf, and one core has it, which claimed it at `start`
 pub record IsInHand (m : MachineView) (b : ℕ) : Type 0 where
@@ -31,8 +31,8 @@ pub record IsInHand (m : MachineView) (b : ℕ) : Type 0 where
   pub word : (bucket_at m b).word ≡ 2 * start + 2
   pub shelf : (bucket_at m b).shelf ≡ None
   pub is_core : core < length m.cores
-  pub holds : claimed_at (hand_at m core b) ≡ Some start
-  pub alone : (c : ℕ) → c ≢ core → claimed_at (hand_at m c b) ≡ None
+  pub holds : hand_claimed_at (hand_at m core b) ≡ Some start
+  pub alone : (c : ℕ) → c ≢ core → hand_claimed_at (hand_at m c b) ≡ None
 
 -- each table in one hand: a bucket's word says where its table is, and it is there alone
 abbrev pub IsHeldOnce : MachineView → Type 0
@@ -74,7 +74,7 @@ worked_at b m c (x ∷ q) = if item_bucket x == b then worked_of (hand_at m c b)
 -- the places of a bucket that an event works
 abbrev pub worked_by : ℕ → MachineView → Event → List ℕ
 worked_by b m (Take c) = worked_at b m c (core_at m c).queue
-worked_by b m (Claim c k) = if k == b then parked (hand_at m c k) else []
+worked_by b m (Claim c k) = if k == b then waiting_places (hand_at m c k) else []
 worked_by b m e = []
 
 -- the places of a bucket that a run works, in order

@@ -9,9 +9,9 @@ use Rattle.handover_core.specs.declared.post.Post.{Post}
 use Rattle.handover_core.specs.Legal.{Legal}
 use Rattle.handover_core.specs.State.{CoreState, MachineView, bucket_at, core_at, hand_at, sent_of}
 use Rattle.handover_core.specs.declared.bucket_state.BucketState.{BucketState}
-use Rattle.handover_core.specs.Machine.{is_end, has_end, end_sent, ends_left, parked}
-use Rattle.handover_core.specs.MachineDesk.{IsMachineDesk}
-use Rattle.handover_core.specs.Bucket.{Piece, piece, Sight, stint_of, IsBucket}
+use Rattle.handover_core.specs.Machine.{is_end, has_end, end_sent, ends_left, waiting_places}
+use Rattle.handover_core.specs.MachineDispatcher.{IsMachineDispatcher}
+use Rattle.handover_core.specs.Bucket.{Piece, piece, BucketSnapshot, stint_of, IsBucket}
 
 -- the items of a bucket among some items
 abbrev pub pieces : ℕ → List Item → List Piece
@@ -35,8 +35,8 @@ ended_stints b from [] = []
 ended_stints b from (p ∷ ps) = ended_by b from p.core p.item ++ ended_stints b (begun_by b from p.item) ps
 
 -- one bucket of a state
-abbrev pub sight : MachineView → ℕ → Sight
-sight m b = record {
+abbrev pub bucket_snapshot : MachineView → ℕ → BucketSnapshot
+bucket_snapshot m b = record {
   owner = (bucket_at m b).owner;
   start = (bucket_at m b).start;
   word = (bucket_at m b).word;
@@ -68,26 +68,26 @@ pub record IsShaped (m : MachineView) : Type 0 where
 pub record IsStreamed (m : MachineView) : Type 0 where
   pub streams : (c : ℕ) → (core_at m c).taken ++ (core_at m c).queue ≡ stream c m.dispatched
   pub legal : (c : ℕ) → Legal (stream c m.dispatched)
-  pub desk : end_sent m ≡ false → IsMachineDesk m
+  pub dispatcher : end_sent m ≡ false → IsMachineDispatcher m
   pub ends : end_sent m ≡ true → m.sent ≡ length m.packets
 
 -- each bucket is in a stage of its own, and a seen word that says that the owner holds the bucket is its word
 pub record AreBuckets (m : MachineView) : Type 0 where
-  pub buckets : (b : ℕ) → b < length m.buckets → IsBucket (sight m b)
+  pub buckets : (b : ℕ) → b < length m.buckets → IsBucket (bucket_snapshot m b)
   pub seen : (b : ℕ) → b < length m.buckets → end_sent m ≡ false → (bucket_at m b).seen ≡ 2 * (bucket_at m b).start + 2 → (bucket_at m b).word ≡ 2 * (bucket_at m b).start + 2
 
 -- the cells that a core has: one for each item on its queue but End, and one for each packet that waits
 abbrev pub cells_in : CoreState → ℕ
-cells_in core = count_by (λ x. not (is_end x)) core.queue + sum_by (λ h. length (parked h)) core.hands
+cells_in core = count_by (λ x. not (is_end x)) core.queue + sum_by (λ h. length (waiting_places h)) core.hands
 
 -- whether an item is a mark
-abbrev pub is_mark : Item → Bool
-is_mark (Of Mark bucket place) = true
-is_mark x = false
+abbrev pub is_mark_item : Item → Bool
+is_mark_item (Of Mark bucket place) = true
+is_mark_item x = false
 
 -- the marks that were sent
 abbrev pub marks : MachineView → ℕ
-marks m = count_by (λ p. is_mark p.item) m.dispatched
+marks m = count_by (λ p. is_mark_item p.item) m.dispatched
 
 -- the claims and releases that a bucket's stints so far have still before them
 abbrev pub due : BucketState → ℕ

@@ -1,6 +1,6 @@
 ghost use Rattle.std.specs.Prelude.{◌≡◌, ◌<◌};
 ghost use Rattle.handover_core.specs.Machine.{met, freed, leave};
-ghost use Rattle.handover_core.specs.Cores.{hand_of, CanMeet};
+ghost use Rattle.handover_core.specs.Cores.{hand_of_duty, CanMeet};
 
 use crate::Kind;
 
@@ -36,7 +36,7 @@ impl Duty {
     /// What becomes of the duty with an item of this kind and place.
     pub(crate) fn met(self, kind: Kind, place: u32) -> Duty
         requires { CanMeet self kind place }
-        ensures { hand_of result ≡ met (hand_of self) kind place }
+        ensures { hand_of_duty result ≡ met (hand_of_duty self) kind place }
     {
         match (self, kind) {
             (Duty::Nothing, Kind::First) => Duty::Parks {
@@ -58,7 +58,7 @@ impl Duty {
 
     /// How many cells are free after it: one, unless the packet is parked.
     pub(crate) fn freed(self, kind: Kind) -> u32
-        ensures { result ≡ freed (hand_of self) kind }
+        ensures { result ≡ freed (hand_of_duty self) kind }
     {
         match (self, kind) {
             (Duty::Nothing, Kind::First) => 0,
@@ -69,7 +69,7 @@ impl Duty {
 
     /// What becomes of the duty when no more packets come.
     pub(crate) fn left(self) -> Duty
-        ensures { hand_of result ≡ leave (hand_of self) }
+        ensures { hand_of_duty result ≡ leave (hand_of_duty self) }
     {
         match self {
             Duty::Holds { start, done } => Duty::Leaves { start, done },

@@ -13,6 +13,10 @@
 //! ([`packets_are_in_place`]), no state is stuck ([`no_state_is_stuck`]), the steps are bounded
 //! ([`steps_are_bounded`]), and a finished machine has worked all ([`a_finished_run_worked_all`]).
 //! These are parts of one invariant ([`every_state_is_sound`], `specs/Sound.antt`).
+//!
+//! Read `item.rt` and `event.rt`; `specs/Legal.antt`, `specs/Dispatch.antt`, `specs/State.antt` and
+//! `specs/Machine.antt`; then `specs/Promises.antt`, `specs/Runs.antt` and `promises.rt`.
+//! `dispatch_laws.rt` says what is sent, and `machine.rt` is the state in memory.
 #![tactic(auto)]
 
 mod bucket_state;

@@ -1,7 +1,7 @@
 ghost use Rattle.std.specs.Prelude.{◌≡◌, ◌<◌, ◌+◌, ◌++◌, ◌∷◌, [], ℕ, length, true, IfOk, OnOk};
 ghost use Rattle.handover_core.specs.State.{MachineView, bucket_at, hand_at, sent_of};
 ghost use Rattle.handover_core.specs.Machine.{enabled, step, waits_for, is_leaving};
-ghost use Rattle.handover_core.specs.Cores.{hand_of};
+ghost use Rattle.handover_core.specs.Cores.{hand_of_duty};
 
 mod choosing;
 mod counting;
@@ -140,7 +140,7 @@ impl Machine {
     fn duty(&self, core: u8, bucket: u16) -> Duty
         requires core { core < length self.now.cores }
         requires bucket { bucket < length self.now.buckets }
-        ensures { hand_of result ≡ hand_at self.now core bucket }
+        ensures { hand_of_duty result ≡ hand_at self.now core bucket }
     {
         self.cores[core as usize].duties[bucket as usize]
     }
@@ -148,7 +148,7 @@ impl Machine {
 
 // Whether the packets that wait there wait for this word.
 fn waits_for(duty: Duty, word: u64) -> bool
-    ensures { result ≡ waits_for (hand_of duty) word }
+    ensures { result ≡ waits_for (hand_of_duty duty) word }
 {
     match duty {
         Duty::Parks { first, count } => 0 < count && word == 2 * u64::from(first) + 1,

@@ -3,7 +3,7 @@ ghost use Rattle.std.specs.VecDeque.{deque_len, deque_capacity};
 ghost use Rattle.handover_core.specs.declared.item.Item.TheVariants.{End};
 ghost use Rattle.handover_core.specs.State.{Away, Held, set_hand};
 ghost use Rattle.handover_core.specs.Machine.{leave, has_end};
-ghost use Rattle.handover_core.specs.Cores.{hand_of, core_state, HasRoom, CanTake, core_took, cells_freed};
+ghost use Rattle.handover_core.specs.Cores.{hand_of_duty, core_state, HasRoom, CanTake, core_took, cells_freed};
 
 use crate::{Duty, Item};
 use rss_base::NoMemory;
@@ -119,7 +119,7 @@ impl WorkerCore {
     /// Another duty for a bucket.
     pub(crate) fn set_duty(&mut self, bucket: u16, duty: Duty)
         requires { bucket < vec_len self.old.duties }
-        ensures state { core_state self.new ≡ record (core_state self.old) { hands = slice_set (core_state self.old).hands bucket (hand_of duty) } }
+        ensures state { core_state self.new ≡ record (core_state self.old) { hands = slice_set (core_state self.old).hands bucket (hand_of_duty duty) } }
         ensures room { (q t : ℕ) → HasRoom q t self.old → HasRoom q t self.new }
     {
         self.duties[bucket as usize] = duty;
@@ -138,7 +138,7 @@ impl WorkerCore {
 
 // Nothing to do with any of so many buckets.
 fn no_duties(alloc: Global, buckets: usize) -> Result<Vec<Duty>, NoMemory>
-    ensures { IfOk result (λ duties. map hand_of duties.items ≡ replicate buckets Away) }
+    ensures { IfOk result (λ duties. map hand_of_duty duties.items ≡ replicate buckets Away) }
 {
     let Ok(mut duties) = Vec::with_capacity(alloc, buckets) else {
         return Err(NoMemory);

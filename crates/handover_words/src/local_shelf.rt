@@ -1,12 +1,12 @@
 ghost use Rattle.std.specs.Prelude.{◌≡◌, ◌≢◌, ◌+◌, ◌<◌, ◌≤◌, ℕ, Some, None, IfOk, length, map, replicate, slice_get, slice_index_or, vec_len, vec_capacity};
 ghost use Rattle.std.specs.List.{range_with_len};
 ghost use Rattle.bucket_table.specs.Table.{empty_table};
-ghost use Rattle.handover_words.specs.ShelfEye.{fresh};
+ghost use Rattle.handover_words.specs.ShelfHistory.{fresh};
 ghost use Rattle.handover_words.specs.LocalShelf.{Closes};
 
-use crate::told::{Done, Run, Told};
+use crate::told::{Done, Told};
 use crate::word::home_word;
-use crate::{NotYet, Shelf, ShelfEye, Shelved};
+use crate::{NotYet, Shelf, ShelfHistory, Shelved};
 use bucket_table::{BucketTable, FlowHashKey};
 use flow_work::FlowWork;
 use known::Known;
@@ -15,7 +15,7 @@ use rss_base::NoMemory;
 use std::alloc::Global;
 use std::marker::{Model, PhantomData};
 use std::mem;
-use toeplitz::Key;
+use toeplitz::{BucketHash, Key};
 
 /// A shelf for one thread, which is its own end. Contracts see its words, what lies there, and what
 /// the end knows.
@@ -23,7 +23,7 @@ use toeplitz::Key;
 pub struct LocalShelf<T: Shelved<N>, N: RunName> {
     words: Vec<u64>,
     homes: Vec<Option<T>>,
-    known: Known<Done, ShelfEye, Run, Told>,
+    known: Known<Done, ShelfHistory, BucketHash, Told>,
     name: PhantomData<N>,
 }
 
@@ -32,11 +32,11 @@ impl<T: Shelved<N>, N: RunName> Model for LocalShelf<T, N> {
 
     ghost Value = { LocalView T };
 
-    ghost use Rattle.handover_words.specs.Kept.{IsKept};
+    ghost use Rattle.handover_words.specs.Kept.{IsSoundShelf};
 
-    ghost view = { λ s. record { words = s.words.items; homes = s.homes.items; eye = s.known.seat.me.0 } };
+    ghost view = { λ s. record { words = s.words.items; homes = s.homes.items; history = s.known.seat.me.0 } };
 
-    ghost invariant = { λ s. IsKept T.lies s.words.items s.homes.items s.known.seat.me.0 };
+    ghost invariant = { λ s. IsSoundShelf T.lies s.words.items s.homes.items s.known.seat.me.0 };
 }
 
 // One empty table of each bucket, in the order of the buckets.
@@ -65,7 +65,7 @@ impl<W: FlowWork, N: RunName> LocalShelf<BucketTable<W>, N> {
         buckets: u16,
         hashing: &FlowHashKey,
     ) -> Result<LocalShelf<BucketTable<W>, N>, NoMemory>
-        ensures eye { IfOk result (λ s. s.eye ≡ fresh key.now buckets 1) }
+        ensures history { IfOk result (λ s. s.history ≡ fresh key.now buckets 1) }
         ensures words { IfOk result (λ s. s.words ≡ replicate buckets 1) }
         ensures homes { IfOk result (λ s. s.homes ≡ map (λ b. Some (empty_table b)) (range_with_len 0 buckets)) }
     {
@@ -84,12 +84,12 @@ impl<T: Shelved<N> + Drop, N: RunName> LocalShelf<T, N> {
     ) -> Result<LocalShelf<T, N>, NoMemory>
         requires count { length homes.items ≡ buckets }
         requires lying { (b : ℕ) → b < buckets → (t : T) × (slice_get homes.items b ≡ Some (Some t)) × T.lies key.now buckets b 0 t }
-        ensures { IfOk result (λ s. s ≡ record { words = replicate buckets 1; homes = homes.items; eye = fresh key.now buckets 1 }) }
+        ensures { IfOk result (λ s. s ≡ record { words = replicate buckets 1; homes = homes.items; history = fresh key.now buckets 1 }) }
     {
         let Ok(words) = Vec::from_elem(alloc, home_word(0), buckets as usize) else {
             return Err(NoMemory);
         };
-        let Ok(known) = Known::new(alloc, &Run { key: *key, buckets }) else {
+        let Ok(known) = Known::new(alloc, &BucketHash { key: *key, buckets }) else {
             return Err(NoMemory);
         };
         Ok(LocalShelf {
@@ -104,7 +104,7 @@ impl<T: Shelved<N> + Drop, N: RunName> LocalShelf<T, N> {
     /// of them is out.
     pub fn close(self, into: &mut Vec<T>)
         requires home { (b : ℕ) → b < length self.homes → slice_index_or self.homes b None ≢ None }
-        requires room { vec_len into.old + self.eye.buckets ≤ vec_capacity into.old }
+        requires room { vec_len into.old + self.history.buckets ≤ vec_capacity into.old }
         ensures tables { Closes T.lies self into.old.items into.new.items }
         ensures room { vec_capacity into.new ≡ vec_capacity into.old }
     {
@@ -129,7 +129,7 @@ impl<T: Shelved<N>, N: RunName> Shelf<T, N> for LocalShelf<T, N> {
 
     ghost home = { λ _. None };
 
-    ghost eye = { λ s. s.eye };
+    ghost history = { λ s. s.history };
 
     ghost now = { λ s. Some (stock s.words s.homes) };
 

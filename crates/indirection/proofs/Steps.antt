@@ -4,7 +4,7 @@ use Rattle.std.proofs.lemmas.List.{append-nil}
 use Rattle.std.proofs.lemmas.List.Sums.{sum_by-append, length-filter}
 use Rattle.indirection.specs.declared.outcome.Outcome.{Outcome}
 use Rattle.indirection.specs.Tries.{Ask, Try, ask_bucket, ask_to, owner_by, owner_from, tail_by, tail_from, tails, tail_list}
-use Rattle.indirection.specs.Buckets.{total_in}
+use Rattle.indirection.specs.Buckets.{total_by}
 use Rattle.indirection.specs.Story.{Parcel, RoundHead, Step, Rounds, Tries, Sends, parcels_of, tries_of, count_in, try_of}
 
 pub parcels_of-append : (xs ys : List Step) → parcels_of (xs ++ ys) ≡ parcels_of xs ++ parcels_of ys
@@ -34,7 +34,7 @@ tails-append b (t ∷ xs) ys = ap (λ (z : List ℕ). (if ask_bucket t.ask == b 
 pub count_in-append : (b : ℕ) (xs ys : List Parcel) → count_in b (xs ++ ys) ≡ count_in b xs + count_in b ys
 count_in-append b xs ys = sum_by-append _ xs ys
 
-pub count_in-total : (b : ℕ) (xs : List Parcel) → count_in b xs ≡ total_in (λ (p : Parcel). p.bucket) b xs
+pub count_in-total : (b : ℕ) (xs : List Parcel) → count_in b xs ≡ total_by (λ (p : Parcel). p.bucket) b xs
 count_in-total b xs = sym (length-filter (λ (p : Parcel). p.bucket == b) xs)
 
 pub tries_of-round : (ss : List Step) (h : RoundHead) → tries_of (ss ++ Rounds h ∷ []) ≡ tries_of ss

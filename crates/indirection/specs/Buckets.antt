@@ -2,13 +2,13 @@
 use Rattle.std.specs.Prelude.{ℕ, ◌%◌, List, filter, length, ◌==◌}
 
 -- the bucket that a hash falls into, of so many buckets
-abbrev pub bucket_of : ℕ → ℕ → ℕ
-bucket_of buckets hash = hash % buckets
+abbrev pub bucket_of_hash : ℕ → ℕ → ℕ
+bucket_of_hash buckets hash = hash % buckets
 
 -- the packets of a bucket, in their order, where `bucket` tells each packet's bucket
-abbrev pub packets_in : {P : Type 0} → (P → ℕ) → ℕ → List P → List P
-packets_in bucket b packets = filter (λ packet. bucket packet == b) packets
+abbrev pub packets_by : {P : Type 0} → (P → ℕ) → ℕ → List P → List P
+packets_by bucket b packets = filter (λ packet. bucket packet == b) packets
 
 -- how many packets a bucket has
-abbrev pub total_in : {P : Type 0} → (P → ℕ) → ℕ → List P → ℕ
-total_in bucket b packets = length (packets_in bucket b packets)
+abbrev pub total_by : {P : Type 0} → (P → ℕ) → ℕ → List P → ℕ
+total_by bucket b packets = length (packets_by bucket b packets)

@@ -1,3 +1,6 @@
+-- Read Views, Tables and JournalView; Tries, Story, Rounds, Due, Outcomes and Lawful; then
+-- JournalFacts, which says Lawful sentence by sentence, and Judge, which is Lawful as a test. Owner
+-- and Stints stand on Tries and Story; Each and Buckets stand by themselves.
 pub mod Buckets
 pub mod Due
 pub mod Each

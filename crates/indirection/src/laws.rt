@@ -7,7 +7,7 @@ ghost use Rattle.indirection.specs.declared.outcome.Outcome.{Outcome};
 ghost use Rattle.indirection.specs.declared.proposal.Proposal.{Proposal};
 ghost use Rattle.indirection.specs.Views.{RoundView};
 ghost use Rattle.indirection.specs.JournalView.{JournalView};
-ghost use Rattle.indirection.specs.Buckets.{total_in};
+ghost use Rattle.indirection.specs.Buckets.{total_by};
 ghost use Rattle.indirection.specs.Rounds.{last_round, opened_round, round_with, entries_with};
 ghost use Rattle.indirection.specs.Tries.{Proposed, Ordered, tries, tails};
 ghost use Rattle.indirection.specs.Story.{Parcel, RoundHead, Step, Rounds, Tries, Sends, told, owner_then, parcels_of, tries_of, count_in};
@@ -22,7 +22,7 @@ ghost use Rattle.indirection.specs.Judge.{lawful};
 pub fn stories()
     ensures packets { (xs : List Parcel) (es : List Entry) → parcels_of (told 0 xs es) ≡ xs }
     ensures tries { (xs : List Parcel) (es : List Entry) → tries_of (told 0 xs es) ≡ tries es }
-    ensures totals { (b : ℕ) (xs : List Parcel) → count_in b xs ≡ total_in (λ (p : Parcel). p.bucket) b xs }
+    ensures totals { (b : ℕ) (xs : List Parcel) → count_in b xs ≡ total_by (λ (p : Parcel). p.bucket) b xs }
 {}
 
 /// The round that gains an outcome is the one behind which no round stands.

@@ -1,12 +1,16 @@
 //! The indirection table, and the journal of what was asked of it.
 //!
 //! A [`Table`] is seen as the list of its owners. A [`Journal`] is seen as its starting table and
-//! the list of its entries, and [`owner_at`] is proved equal to the owner that those entries give
-//! a bucket at a position. The packets and the journal of a run are told as one list of steps
+//! the list of its entries, and [`owner_at`] is proved equal to the owner that those entries give a
+//! bucket at a position. The packets and the journal of a run are told as one list of steps
 //! (`specs/Story.antt`), and each step is judged by those before it: the layers above speak of
-//! owners, tails, loads and stints in the words that stand here. What a lawful journal says, sentence
-//! by sentence, are laws of it ([`lawful_entries`], [`lawful_rounds`], [`lawful_answers`],
+//! owners, tails, loads and stints in the words that stand here. What a lawful journal says,
+//! sentence by sentence, are laws of it ([`lawful_entries`], [`lawful_rounds`], [`lawful_answers`],
 //! [`lawful_owners`]).
+//!
+//! Read `table.rt` with `specs/Tables.antt`; `entry.rt`; in `specs/` Tries, Story, Due and Lawful,
+//! then `journal.rt` and `laws.rt`; then `specs/JournalFacts.antt` and `journal_laws.rt`.
+//! `specs/Stints.antt` and `specs/Buckets.antt` are for the layers above.
 #![tactic(auto)]
 
 mod entry;

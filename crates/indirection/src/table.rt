@@ -1,5 +1,5 @@
 ghost use Rattle.std.specs.Prelude.{◌≡◌, ◌≤◌, ◌<◌, length, slice_index, slice_set, IfOk, IfErr, IfNone, All};
-ghost use Rattle.indirection.specs.Buckets.{bucket_of};
+ghost use Rattle.indirection.specs.Buckets.{bucket_of_hash};
 ghost use Rattle.indirection.specs.Tables.{IsTable, owners_in_turn, first_bad, IsRefusedBy};
 
 use crate::{MOST_BUCKETS, MOST_CORES, TableFault};
@@ -103,7 +103,7 @@ impl Table {
 
     /// The bucket of a hash, which is the hash modulo the number of buckets.
     pub fn bucket(&self, hash: u32) -> u16
-        ensures value { result ≡ bucket_of (length self.now.owners) hash }
+        ensures value { result ≡ bucket_of_hash (length self.now.owners) hash }
         ensures below { result < length self.now.owners }
     {
         (hash % self.owners.len() as u32) as u16

@@ -1,8 +1,12 @@
 //! The fields of a frame that tell its flow, and the text of a flow's key.
 //!
 //! [`fields`] is proved equal to a definition by cases on byte positions (`specs/Frame.antt`), and
-//! [`key_text`] to the key's text (`specs/KeyText.antt`). A [`RunName`] is a type by which contracts
-//! above name the packets of a whole run.
+//! [`key_text`] to the key's text (`specs/KeyText.antt`). A [`RunName`] is a type by which
+//! contracts above name the packets of a whole run.
+//!
+//! Read `packet.rt` and `key.rt`; `specs/Frame.antt`, over `specs/Ipv4.antt` and `specs/Ipv6.antt`;
+//! then `frame.rt`. `specs/KeyText.antt` with `texts.rt`, `specs/Key.antt` with `laws.rt`, and
+//! `run_name.rt` stand by themselves.
 #![tactic(auto)]
 
 mod frame;

@@ -1,4 +1,3 @@
-pub mod Parts
 pub mod Records
 pub mod SoFar
 pub mod StreamEnds

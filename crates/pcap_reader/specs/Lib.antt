@@ -1,3 +1,5 @@
+-- Read Capture, the format. Then Stream and Reading say what one call takes and does, Next what
+-- `next` leaves, and StreamEnd and Taken what many calls take.
 pub mod Capture
 pub mod Next
 pub mod Reading

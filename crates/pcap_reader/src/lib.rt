@@ -6,6 +6,10 @@
 //! failed read the first of them ([`records_in_order`]). It reads its source in large pieces into
 //! one buffer, copies no captured bytes out of it, takes no memory after its start, and reads no
 //! further than the longest record behind what it gave.
+//!
+//! Read `specs/Capture.antt`, then `fault.rt`, `form.rt`, `record.rt` and `laws.rt`;
+//! `specs/Stream.antt` and `specs/Reading.antt`, then `reader.rt` and `reading_laws.rt`. The other
+//! files take numbers and headers out of the buffer in `window.rt`.
 #![tactic(auto)]
 
 mod fault;

@@ -1,111 +1,15 @@
-// The bytes that were read ahead, in one buffer.
-ghost use Rattle.std.specs.Prelude.{◌≡◌, ◌≤◌, ◌<◌, ◌+◌, ◌-◌, ◌⊎◌, ◌++◌, [], List, ℕ, length, drop, take, IfOk, OnOk, OnErr, IfSome};
-ghost use Rattle.std.specs.Io.KnownBytes.{Consumes, Keeps, IsAtEnd, prepend_known};
+// The bytes that were read ahead.
+ghost use Rattle.std.specs.Prelude.{◌≡◌, ◌≤◌, ◌<◌, length, OnOk, OnErr};
+ghost use Rattle.std.specs.Io.KnownBytes.{Keeps, IsAtEnd, prepend_known};
 ghost use Rattle.rss_base.specs.Faults.{HasCause};
 
-use rss_base::{Failed, NoMemory, Source};
-use std::alloc::Global;
-use std::marker::Model;
+use rss_base::{Failed, Source};
 
-/// Bytes of the buffer. It has room for the captured bytes of the longest record.
+/// Bytes that are read ahead at most. The captured bytes of the longest record are so many.
 pub const ROOM: usize = 262_144;
 
-/// The bytes that were read ahead and not yet used. Contracts see it as their list.
-#[derive(Drop)]
-pub struct Window {
-    buffer: Vec<u8>,
-    start: usize,
-    end: usize,
-}
-
-impl Model for Window {
-    ghost use Rattle.std.specs.Prelude.{◌≡◌, ◌≤◌, List, ℕ, length, take, drop};
-    ghost use Rattle.pcap_reader.specs.declared.window.TheConstants.{ROOM};
-
-    ghost Value = { List ℕ };
-
-    ghost view = { λ w. drop w.start (take w.end w.buffer.items) };
-
-    ghost invariant = { λ w. (w.start ≤ w.end) × (w.end ≤ length w.buffer.items) × (length w.buffer.items ≡ ROOM) };
-}
-
-// Moves a part to the front.
-fn compact(buffer: &mut Vec<u8>, start: usize, end: usize)
-    requires order { start ≤ end }
-    requires within { end ≤ length buffer.old.items }
-    ensures front { take (end - start) buffer.new.items ≡ drop start (take end buffer.old.items) }
-    ensures len { length buffer.new.items ≡ length buffer.old.items }
-{
-    buffer.copy_within(start..end, 0);
-}
-
-// One read, behind the first `end` bytes.
-fn read_behind<S: Source>(buffer: &mut Vec<u8>, end: usize, source: &mut S) -> Result<usize, Failed>
-    requires { end ≤ length buffer.old.items }
-    ensures front { take end buffer.new.items ≡ take end buffer.old.items }
-    ensures len { length buffer.new.items ≡ length buffer.old.items }
-    ensures within { IfOk result (λ n. end + n ≤ length buffer.new.items) }
-    ensures bytes { IfOk result (λ n. Consumes (S.left source.old) (S.left source.new) (take n (drop end buffer.new.items))) }
-    ensures end { IfOk result (λ n. n ≡ 0 → end < length buffer.old.items → IsAtEnd (S.left source.new)) }
-    ensures err { OnErr result (Keeps (S.left source.old) (S.left source.new)) }
-    ensures cause { HasCause (S.faults source.old) (S.faults source.new) result }
-    ensures origin { S.origin source.new ≡ S.origin source.old }
-{
-    source.read(&mut buffer[end..])
-}
-
-impl Window {
-    /// An empty window. It takes its whole buffer now, and no memory later.
-    pub fn new(alloc: Global) -> Result<Window, NoMemory>
-        ensures { IfOk result (λ w. w ≡ []) }
-    {
-        match vec![in alloc; 0u8; ROOM] {
-            Ok(buffer) => Ok(Window {
-                buffer,
-                start: 0,
-                end: 0,
-            }),
-            Err(_) => Err(NoMemory),
-        }
-    }
-
-    /// What was read ahead.
-    pub fn bytes(&self) -> &[u8]
-        ensures value { result.now ≡ self.now }
-        ensures room { length self.now ≤ ROOM }
-    {
-        &self.buffer[self.start..self.end]
-    }
-
-    /// Lets go of that many bytes at the front.
-    pub fn consume(&mut self, count: usize)
-        requires { count ≤ length self.old }
-        ensures { self.new ≡ drop count self.old }
-    {
-        self.start += count;
-    }
-
-    /// One read, which asks for all that the buffer has room for.
-    pub fn pull<S: Source>(&mut self, source: &mut S) -> Result<usize, Failed>
-        requires { length self.old < ROOM }
-        ensures bytes { IfOk result (λ n. (piece : List ℕ) × (length piece ≡ n) × (self.new ≡ self.old ++ piece) × Consumes (S.left source.old) (S.left source.new) piece) }
-        ensures end { IfOk result (λ n. n ≡ 0 → IsAtEnd (S.left source.new)) }
-        ensures err { OnErr result (Keeps (S.left source.old) (S.left source.new) × (self.new ≡ self.old)) }
-        ensures cause { HasCause (S.faults source.old) (S.faults source.new) result }
-        ensures origin { S.origin source.new ≡ S.origin source.old }
-    {
-        compact(&mut self.buffer, self.start, self.end);
-        self.end -= self.start;
-        self.start = 0;
-        match read_behind(&mut self.buffer, self.end, source) {
-            Ok(count) => {
-                self.end += count;
-                Ok(count)
-            }
-            Err(failed) => Err(failed),
-        }
-    }
-}
+/// The bytes that were read ahead and not yet used.
+pub type Window = rss_base::Window<ROOM>;
 
 /// Reads on until that many bytes are there, or the source has no more.
 pub fn fill<S: Source>(window: &mut Window, source: &mut S, want: usize) -> Result<(), Failed>

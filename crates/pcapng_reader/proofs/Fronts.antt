@@ -8,7 +8,7 @@ use Rattle.pcapng_reader.specs.declared.interface.Interface.{Interface}
 use Rattle.pcapng_reader.specs.Numbers.{number_at}
 use Rattle.pcapng_reader.specs.Options.{padded}
 use Rattle.pcapng_reader.specs.Scope.{Scope}
-use Rattle.pcapng_reader.specs.Front.{is_section, kind_of, order_in, total_in, least_total, looked_at, is_record, interface_named, bytes_at, captured_of}
+use Rattle.pcapng_reader.specs.Front.{is_section, kind_of, order_in, total_length, least_total, looked_at, is_record, interface_named, bytes_at, captured_of}
 use Rattle.pcapng_reader.specs.Breaks.{Row, first_row, frame_rows, section_rows, record_rows, record_break, front_break, is_kind_description}
 use Rattle.pcapng_reader.proofs.Stories.{no_row, neither, later_rows, second, not_below}
 
@@ -24,11 +24,11 @@ sound_parts scope n front h =
     (a.0, b.0, b.1)
 
 -- a block has a number, and its total length is large enough for its kind
-pub sound_frame : (scope : Scope) (n : ℕ) (front : List ℕ) → front_break scope n front ≡ None → ((n == 4_294_967_295) ≡ false) × (least_total (kind_of scope.order front) ≤ total_in scope.order front)
+pub sound_frame : (scope : Scope) (n : ℕ) (front : List ℕ) → front_break scope n front ≡ None → ((n == 4_294_967_295) ≡ false) × (least_total (kind_of scope.order front) ≤ total_length scope.order front)
 sound_frame scope n front h =
     let frame = (sound_parts scope n front h).0 in
     let rows : List Row = frame_rows scope.order n front in
-    let total : ℕ = total_in scope.order front in
+    let total : ℕ = total_length scope.order front in
     let numbered = no_row n rows frame in
     let begun = no_row n (later_rows rows) numbered.1 in
     let ordered = no_row n (later_rows (later_rows rows)) begun.1 in
@@ -97,12 +97,12 @@ sound_looked scope n front h =
 
 -- a record's captured bytes are inside its block
 pub record_room : (scope : Scope) (n : ℕ) (front : List ℕ) (kind : BlockKind) (order : ByteOrder) (named : ℕ) (interface : Interface) → front_break scope n front ≡ None → order ≡ scope.order → kind ≡ kind_of order front → is_record kind ≡ true →
-    named ≡ interface_named kind order front → slice_get scope.interfaces named ≡ Some interface → bytes_at kind + captured_of kind order interface front ≤ total_in order front
+    named ≡ interface_named kind order front → slice_get scope.interfaces named ≡ Some interface → bytes_at kind + captured_of kind order interface front ≤ total_length order front
 record_room scope n front kind order named interface sound o k r i some =
     let K : kind_of scope.order front ≡ kind = sym (k ∙ ap (λ (o : ByteOrder). kind_of o front) o) in
     let there : slice_get scope.interfaces (interface_named kind scope.order front) ≡ Some interface =
     ap (λ m. slice_get scope.interfaces m) (sym (i ∙ ap (λ (o : ByteOrder). interface_named kind o front) o)) ∙ some in
     let fits = sound_record scope n front kind interface sound K r there in
     let same = same_order scope.order front (not_section scope.order front kind K (λ e. let bad = subst (λ (k : BlockKind). is_record k ≡ true) e r in cc)) in
-    let told : number_at scope.order 4 4 front ≡ total_in scope.order front = ap (λ (o : ByteOrder). number_at o 4 4 front) (sym same) in
-    subst (λ (o : ByteOrder). bytes_at kind + captured_of kind o interface front ≤ total_in o front) (sym o) (omega (arith, fits.1, told))
+    let told : number_at scope.order 4 4 front ≡ total_length scope.order front = ap (λ (o : ByteOrder). number_at o 4 4 front) (sym same) in
+    subst (λ (o : ByteOrder). bytes_at kind + captured_of kind o interface front ≤ total_length o front) (sym o) (omega (arith, fits.1, told))

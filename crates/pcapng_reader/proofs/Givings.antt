@@ -13,7 +13,7 @@ use Rattle.pcapng_reader.specs.Scope.{Scope}
 use Rattle.pcapng_reader.specs.Front.{is_section}
 use Rattle.pcapng_reader.specs.Blocks.{Packet, Story, story_at, at_first}
 use Rattle.pcapng_reader.specs.Classic.{is_pcapng}
-use Rattle.pcapng_reader.specs.Progress.{Told, told_of, behind, text_with, story_inside, told_at, Progress, tells, waits, waits_at, IsPrompt, StageFits, Suits}
+use Rattle.pcapng_reader.specs.Progress.{Told, told_of, behind, text_with, story_inside, told_at, Progress, tells, awaits_block, waits_at, IsPrompt, StageFits, Suits}
 use Rattle.pcapng_reader.specs.Stages.{kept_back, break_at}
 use Rattle.pcapng_reader.specs.Steps.{fresh, hands_on_at, opened_at}
 use Rattle.pcapng_reader.proofs.Places.{number_at-append}
@@ -95,17 +95,17 @@ split_text ready held text f s (inr all) =
 pub gives_view : (window ready given : List ℕ) (held f s count : ℕ) (stage : Stage) (scope : Scope) (n : ℕ) (rest : List ℕ) → waits_at stage count ≡ false → s ≤ held → held ≤ length window → (s ≡ 0) ⊎ (f ≡ length ready) →
     given ≡ take f ready ++ take s window →
     tells (made ready (take held window) (drop held window) stage scope n) rest ≡ behind given (tells (made (drop f ready) (take (held - s) (drop s window)) (drop (held - s) (drop s window)) stage scope n) rest)
-gives_view window ready given held f s count stage scope n rest waits few there either all =
+gives_view window ready given held f s count stage scope n rest awaits_block few there either all =
     let whole : s + (held - s) ≡ held = omega arith in
     let left : take (held - s) (drop s window) ≡ drop s (take held window) = sym (drop-take s (held - s) window) ∙ ap (λ m. drop s (take m window)) whole in
     let ahead : drop (held - s) (drop s window) ≡ drop held window = drop-drop (held - s) s window ∙ ap (λ m. drop m window) whole in
     let front : take s window ≡ take s (take held window) = sym (take-take s held window few) in
     let input : List ℕ = drop held window ++ rest in
     let t : Told = told_at stage scope n [] input in
-    let old = tells_at (made ready (take held window) (drop held window) stage scope n) stage rest refl ∙ ap (λ (x : Told). behind ready x) (held_first stage scope n count (take held window) input waits) in
+    let old = tells_at (made ready (take held window) (drop held window) stage scope n) stage rest refl ∙ ap (λ (x : Told). behind ready x) (held_first stage scope n count (take held window) input awaits_block) in
     let new = ap (λ (w : List ℕ). tells (made (drop f ready) (take (held - s) (drop s window)) w stage scope n) rest) ahead
     ∙ (ap (λ (w : List ℕ). tells (made (drop f ready) w (drop held window) stage scope n) rest) left
-    ∙ (tells_at (made (drop f ready) (drop s (take held window)) (drop held window) stage scope n) stage rest refl ∙ ap (λ (x : Told). behind (drop f ready) x) (held_first stage scope n count (drop s (take held window)) input waits))) in
+    ∙ (tells_at (made (drop f ready) (drop s (take held window)) (drop held window) stage scope n) stage rest refl ∙ ap (λ (x : Told). behind (drop f ready) x) (held_first stage scope n count (drop s (take held window)) input awaits_block))) in
     old
     ∙ (ap (λ (w : List ℕ). told w t.broken) (split_text ready (take held window) t.text f s either)
     ∙ (ap (λ (w : List ℕ). told ((take f ready ++ w) ++ (drop f ready ++ (drop s (take held window) ++ t.text))) t.broken) (sym front)
@@ -185,12 +185,12 @@ open_view window ready h front held block stage scope n p e none there =
     (drop-drop held front window ∙ ap (λ (w : List ℕ). drop (front + held) w) (sym ahead)) (ap (λ (p : Progress). p.scope) e) (ap (λ (p : Progress). p.number) e)
 
 -- how many bytes are given of both parts
-pub counts : (window ready : List ℕ) (held : ℕ) (stage : Stage) (scope : Scope) (n : ℕ) (p : Progress) (count f room : ℕ) → made ready (take held window) (drop held window) stage scope n ≡ p → Suits stage scope n (length ready) held (length window) → waits p ≡ false →
+pub counts : (window ready : List ℕ) (held : ℕ) (stage : Stage) (scope : Scope) (n : ℕ) (p : Progress) (count f room : ℕ) → made ready (take held window) (drop held window) stage scope n ≡ p → Suits stage scope n (length ready) held (length window) → awaits_block p ≡ false →
     count ≡ min room (length ready + held - kept_back stage) → f ≡ min count (length ready) →
     (waits_at stage (length ready + held) ≡ false) × (length (take f ready) + length (take (count - f) window) ≡ count) × (count - f ≤ held) × ((count - f ≡ 0) ⊎ (f ≡ length ready))
 counts window ready held stage scope n p count f room e s w a b =
     let front : length (take held window) ≡ held = simp length-take (omega (arith, s.within)) in
-    let still : waits_at stage (length ready + held) ≡ false = subst (λ h. waits_at stage (length ready + h) ≡ false) front (subst (λ (q : Progress). waits q ≡ false) (sym e) w) in
+    let still : waits_at stage (length ready + held) ≡ false = subst (λ h. waits_at stage (length ready + h) ≡ false) front (subst (λ (q : Progress). awaits_block q ≡ false) (sym e) w) in
     let few : count - f ≤ held = omega arith in
     (still, simp length-take (omega (arith, few, s.within)), few, elim (cases_lt count (length ready)) [ inl less ↦ inl (omega arith) | inr more ↦ inr (omega arith) ])
 

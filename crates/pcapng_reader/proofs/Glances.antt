@@ -11,8 +11,8 @@ use Rattle.pcapng_reader.specs.declared.interface.Interface.{Interface}
 use Rattle.pcapng_reader.specs.declared.look.Look.TheVariants as looks
 use Rattle.pcapng_reader.specs.Numbers.{number_at}
 use Rattle.pcapng_reader.specs.Scope.{Scope}
-use Rattle.pcapng_reader.specs.Front.{kind_of, total_in, least_total, looked_at, is_record, interface_named, bytes_at, captured_of}
-use Rattle.pcapng_reader.specs.Breaks.{first_row, first_of, rest_rows, front_break, first_break}
+use Rattle.pcapng_reader.specs.Front.{kind_of, total_length, least_total, looked_at, is_record, interface_named, bytes_at, captured_of}
+use Rattle.pcapng_reader.specs.Breaks.{first_row, earlier_break, rest_rows, front_break, first_break}
 use Rattle.pcapng_reader.specs.Blocks.{story_at}
 use Rattle.pcapng_reader.specs.Progress.{story_inside, AddsFit}
 use Rattle.pcapng_reader.specs.Looks.{block_of, adds_of, opened, packet_of, opened_record, looked_with, looked_behind, Looks}
@@ -31,7 +31,7 @@ same_front bytes rest ended short end = elim (cases_lt (length bytes) 28) [
 
 broken_front : (scope : Scope) (n : ℕ) (bytes : List ℕ) (e : NgBreak) → front_break scope n (take 28 bytes) ≡ Some e → first_break scope n bytes ≡ Some e
 unfolding first_break
-broken_front scope n bytes e h = ap (λ (o : Option NgBreak). first_of o (first_row n (rest_rows scope.order bytes))) h
+broken_front scope n bytes e h = ap (λ (o : Option NgBreak). earlier_break o (first_row n (rest_rows scope.order bytes))) h
 
 -- the front breaks the block
 pub looks_broken : (scope : Scope) (n : ℕ) (bytes : List ℕ) (ended : Bool) (e : NgBreak) → 0 < length bytes → (length bytes < 28 → ended ≡ true) → front_break scope n (take 28 bytes) ≡ Some e →
@@ -44,7 +44,7 @@ looks_broken scope n bytes ended e some short h rest end =
 
 -- the story of a block that holds no packet
 other_story : (kind : BlockKind) (scope : Scope) (n : ℕ) (bytes : List ℕ) → is_record kind ≡ false → kind_of scope.order (take 28 bytes) ≡ kind → 0 < length bytes → front_break scope n (take 28 bytes) ≡ None →
-    looked_at kind + 4 ≤ total_in scope.order (take 28 bytes) → looked_at kind ≤ length bytes →
+    looked_at kind + 4 ≤ total_length scope.order (take 28 bytes) → looked_at kind ≤ length bytes →
     story_at scope n bytes ≡ story_inside scope n (block_of scope.order (take 28 bytes) (looked_at kind) (adds_of kind scope.order (take 28 bytes))) [] (drop (looked_at kind) bytes)
 other_story kinds.Section scope n bytes r k some sound room there =
     let after = section_after scope bytes (drop 16 bytes) 16 k in
@@ -81,9 +81,9 @@ pub looks_other : (kind : BlockKind) (scope : Scope) (n : ℕ) (bytes : List ℕ
 looks_other kind scope n bytes ended r k small some short sound =
     let front : List ℕ = take 28 bytes in
     let frame = sound_frame scope n front sound in
-    let least : least_total kind ≤ total_in scope.order front = subst (λ (k : BlockKind). least_total k ≤ total_in scope.order front) k frame.1 in
+    let least : least_total kind ≤ total_length scope.order front = subst (λ (k : BlockKind). least_total k ≤ total_length scope.order front) k frame.1 in
     let looked : looked_at kind ≤ length front = subst (λ (k : BlockKind). looked_at k ≤ length front) k (sound_looked scope n front sound) in
-    let room : looked_at kind + 4 ≤ total_in scope.order front = room_of kind (total_in scope.order front) r least in
+    let room : looked_at kind + 4 ≤ total_length scope.order front = room_of kind (total_length scope.order front) r least in
     let front_length : length front ≤ length bytes = simp length-take (omega arith) in
     record {
       there = omega (arith, looked, front_length);
@@ -94,7 +94,7 @@ looks_other kind scope n bytes ended r k small some short sound =
           let more : 0 < length (bytes ++ rest) = simp length-append (omega arith) in
           let there : looked_at kind ≤ length (bytes ++ rest) = simp length-append (omega (arith, looked, front_length)) in
           let none : looked_at kind + 0 ≡ looked_at kind = omega arith in
-          let story = other_story kind scope n (bytes ++ rest) r (ap (λ (w : List ℕ). kind_of scope.order w) same ∙ k) more (ap (λ (w : List ℕ). front_break scope n w) same ∙ sound) (subst (λ (w : List ℕ). looked_at kind + 4 ≤ total_in scope.order w) (sym same) room) there in
+          let story = other_story kind scope n (bytes ++ rest) r (ap (λ (w : List ℕ). kind_of scope.order w) same ∙ k) more (ap (λ (w : List ℕ). front_break scope n w) same ∙ sound) (subst (λ (w : List ℕ). looked_at kind + 4 ≤ total_length scope.order w) (sym same) room) there in
           subst (λ m. story_at scope n (bytes ++ rest) ≡ story_inside scope n (block_of scope.order front (looked_at kind) (adds_of kind scope.order front)) [] (drop m (bytes ++ rest))) (sym none)
           (subst (λ (w : List ℕ). story_at scope n (bytes ++ rest) ≡ story_inside scope n (block_of scope.order w (looked_at kind) (adds_of kind scope.order w)) [] (drop (looked_at kind) (bytes ++ rest))) same story);
     }
@@ -110,8 +110,8 @@ looks_record kind interface scope n bytes ended r k named small some short sound
     let seen : ℕ = bytes_at kind + held in
     let frame = sound_frame scope n front sound in
     let fits = sound_record scope n front kind interface sound k r named in
-    let told : number_at scope.order 4 4 front ≡ total_in scope.order front = ap (λ o. number_at o 4 4 front) (sym order) in
-    let room : seen + 4 ≤ total_in scope.order front = omega (arith, fits.1, told) in
+    let told : number_at scope.order 4 4 front ≡ total_length scope.order front = ap (λ o. number_at o 4 4 front) (sym order) in
+    let room : seen + 4 ≤ total_length scope.order front = omega (arith, fits.1, told) in
     record {
       there = there;
       limit = fits.0;
@@ -128,7 +128,7 @@ looks_record kind interface scope n bytes ended r k named small some short sound
           let whole = take 28 (bytes ++ rest) in
           let story = opens_story scope n (bytes ++ rest) (bytes_at kind) (captured_of kind scope.order interface whole) (packet_of kind scope.order interface whole) more
           (ap (λ (w : List ℕ). front_break scope n w) same ∙ sound)
-          (subst (λ (w : List ℕ). bytes_at kind + captured_of kind scope.order interface w + 4 ≤ total_in scope.order w) (sym same) room)
+          (subst (λ (w : List ℕ). bytes_at kind + captured_of kind scope.order interface w + 4 ≤ total_length scope.order w) (sym same) room)
           (subst (λ (w : List ℕ). bytes_at kind + captured_of kind scope.order interface w ≤ length (bytes ++ rest)) (sym same) (omega (arith, there, longer)))
           after.0 after.1 in
           let left : List ℕ = drop (bytes_at kind) bytes in
@@ -148,16 +148,16 @@ looks_cut kind interface scope n bytes ended r k named some over sound short = �
     let front : List ℕ = take 28 bytes in
     let order = same_order scope.order front (not_section scope.order front kind k (λ e. let bad = subst (λ (k : BlockKind). is_record k ≡ true) e r in cc)) in
     let fits = sound_record scope n front kind interface sound k r named in
-    let told : number_at scope.order 4 4 front ≡ total_in scope.order front = ap (λ o. number_at o 4 4 front) (sym order) in
-    let less : length bytes < total_in scope.order front = omega (arith, fits.1, told, short) in
+    let told : number_at scope.order 4 4 front ≡ total_length scope.order front = ap (λ o. number_at o 4 4 front) (sym order) in
+    let less : length bytes < total_length scope.order front = omega (arith, fits.1, told, short) in
     let all : bytes ++ rest ≡ bytes = ap (λ (w : List ℕ). bytes ++ w) (end over) ∙ append-nil bytes in
     ap (λ (w : List ℕ). story_at scope n w) all ∙ cut scope n bytes some sound less
   where
-    cut : (scope : Scope) (n : ℕ) (bytes : List ℕ) → 0 < length bytes → front_break scope n (take 28 bytes) ≡ None → length bytes < total_in scope.order (take 28 bytes) →
+    cut : (scope : Scope) (n : ℕ) (bytes : List ℕ) → 0 < length bytes → front_break scope n (take 28 bytes) ≡ None → length bytes < total_length scope.order (take 28 bytes) →
         story_at scope n bytes ≡ record { packets = []; broken = Some (record { block = n; kind = breaks.Short; value = length bytes }) }
     cut scope n bytes some sound less =
         let row = rest_break scope n bytes sound in
-        let short : first_row n (rest_rows scope.order bytes) ≡ Some (record { block = n; kind = breaks.Short; value = length bytes }) = rw (below (length bytes) (total_in scope.order (take 28 bytes)) less) refl in
+        let short : first_row n (rest_rows scope.order bytes) ≡ Some (record { block = n; kind = breaks.Short; value = length bytes }) = rw (below (length bytes) (total_length scope.order (take 28 bytes)) less) refl in
         story_at-broken scope n bytes (record { block = n; kind = breaks.Short; value = length bytes }) some (row ∙ short)
 
 is_below : (a b : ℕ) → nat_lt a b ≡ true → a < b

@@ -66,7 +66,7 @@ same_scope (Waits link nanos original) block other scope input rest s e = refl
 pub inside_passes : (scope : Scope) (n : ℕ) (block : Block) (held input : List ℕ) (count : ℕ) (adds : Adds) → count ≤ length input → count + 4 ≤ block.rest → block.rest ≤ block.total →
     (block.rest ≤ length input → scope_by block.adds block scope input ≡ scope_by adds (passed block count adds) scope (drop count input)) → waiting block.adds held ≡ waiting adds held →
     story_inside scope n block held input ≡ story_inside scope n (passed block count adds) held (drop count input)
-inside_passes scope n block held input count adds a b w same waits = elim (cases_lt (length input) block.rest) [
+inside_passes scope n block held input count adds a b w same awaits_block = elim (cases_lt (length input) block.rest) [
   | inl short ↦
       let fewer : length (drop count input) < block.rest - count = simp length-drop (omega arith) in
       let value : block.total - block.rest + length input ≡ block.total - (block.rest - count) + length (drop count input) = simp length-drop (omega arith) in
@@ -80,7 +80,7 @@ inside_passes scope n block held input count adds a b w same waits = elim (cases
       let behind : drop block.rest input ≡ drop (block.rest - count) (drop count input) = ap (λ m. drop m input) (sym whole) ∙ sym (drop-drop (block.rest - count) count input) in
       inside_long scope n block held input long
       ∙ (ap (λ t. ends_by (t == block.total) n t (waiting block.adds held) (story_at (scope_by block.adds block scope input) (n + 1) (drop block.rest input))) tail
-      ∙ (ap (λ (ps : List Packet). ends_by (tail_of (passed block count adds) (drop count input) == block.total) n (tail_of (passed block count adds) (drop count input)) ps (story_at (scope_by block.adds block scope input) (n + 1) (drop block.rest input))) waits
+      ∙ (ap (λ (ps : List Packet). ends_by (tail_of (passed block count adds) (drop count input) == block.total) n (tail_of (passed block count adds) (drop count input)) ps (story_at (scope_by block.adds block scope input) (n + 1) (drop block.rest input))) awaits_block
       ∙ (ap (λ (s : Scope). ends_by (tail_of (passed block count adds) (drop count input) == block.total) n (tail_of (passed block count adds) (drop count input)) (waiting adds held) (story_at s (n + 1) (drop block.rest input))) (same long)
       ∙ (ap (λ (bs : List ℕ). ends_by (tail_of (passed block count adds) (drop count input) == block.total) n (tail_of (passed block count adds) (drop count input)) (waiting adds held) (story_at (scope_by adds (passed block count adds) scope (drop count input)) (n + 1) bs)) behind
       ∙ sym (inside_long scope n (passed block count adds) held (drop count input) enough)))))

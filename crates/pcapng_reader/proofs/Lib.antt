@@ -5,7 +5,6 @@ pub mod Glances
 pub mod Insides
 pub mod Lifts
 pub mod Opens
-pub mod Parts
 pub mod Resolution
 pub mod Settling
 pub mod Standing

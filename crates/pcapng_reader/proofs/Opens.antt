@@ -14,8 +14,8 @@ use Rattle.pcapng_reader.specs.declared.stage.Block.{Block}
 use Rattle.pcapng_reader.specs.Numbers.{number_at}
 use Rattle.pcapng_reader.specs.Options.{resolution_of}
 use Rattle.pcapng_reader.specs.Scope.{Scope}
-use Rattle.pcapng_reader.specs.Front.{kind_of, order_in, total_in, is_record, interface_named, bytes_at, captured_of}
-use Rattle.pcapng_reader.specs.Breaks.{first_row, first_of, rest_rows, front_break, first_break, total_again}
+use Rattle.pcapng_reader.specs.Front.{kind_of, order_in, total_length, is_record, interface_named, bytes_at, captured_of}
+use Rattle.pcapng_reader.specs.Breaks.{first_row, earlier_break, rest_rows, front_break, first_break, total_again}
 use Rattle.pcapng_reader.specs.Blocks.{Packet, extent, packet_by, packets_by, packets_in, after_by, scope_after, link_with, before, unless, story_at}
 use Rattle.pcapng_reader.specs.Progress.{story_inside, scope_by, waiting, tail_of, link_told}
 use Rattle.pcapng_reader.specs.Looks.{block_of, packet_of}
@@ -27,14 +27,14 @@ use Rattle.pcapng_reader.proofs.Insides.{below, above, inside_short, inside_long
 -- what is wrong with a block whose front is sound is wrong behind it
 pub rest_break : (scope : Scope) (n : ℕ) (bytes : List ℕ) → front_break scope n (take 28 bytes) ≡ None → first_break scope n bytes ≡ first_row n (rest_rows scope.order bytes)
 unfolding first_break
-rest_break scope n bytes h = ap (λ (o : Option NgBreak). first_of o (first_row n (rest_rows scope.order bytes))) h
+rest_break scope n bytes h = ap (λ (o : Option NgBreak). earlier_break o (first_row n (rest_rows scope.order bytes))) h
 
 pub opens_story : (scope : Scope) (n : ℕ) (bytes : List ℕ) (front held : ℕ) (adds : Adds) → 0 < length bytes → front_break scope n (take 28 bytes) ≡ None →
-    front + held + 4 ≤ total_in scope.order (take 28 bytes) → front + held ≤ length bytes → packets_in scope bytes ≡ waiting adds (take held (drop front bytes)) →
+    front + held + 4 ≤ total_length scope.order (take 28 bytes) → front + held ≤ length bytes → packets_in scope bytes ≡ waiting adds (take held (drop front bytes)) →
     scope_after scope bytes ≡ scope_by adds (block_of scope.order (take 28 bytes) (front + held) adds) scope (drop (front + held) bytes) →
     story_at scope n bytes ≡ story_inside scope n (block_of scope.order (take 28 bytes) (front + held) adds) (take held (drop front bytes)) (drop (front + held) bytes)
 opens_story scope n bytes front held adds some sound room there packets after =
-    let total : ℕ = total_in scope.order (take 28 bytes) in
+    let total : ℕ = total_length scope.order (take 28 bytes) in
     let seen : ℕ = front + held in
     let block : Block = block_of scope.order (take 28 bytes) seen adds in
     let rest : List ℕ = drop seen bytes in

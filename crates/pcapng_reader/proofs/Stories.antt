@@ -7,8 +7,8 @@ use Rattle.pcapng_reader.specs.declared.kind.BlockKind.{BlockKind}
 use Rattle.pcapng_reader.specs.declared.kind.BlockKind.TheVariants.{Section, Description, Simple, Enhanced, Other}
 use Rattle.pcapng_reader.specs.declared.fault.NgBreak.{NgBreak}
 use Rattle.pcapng_reader.specs.Scope.{Scope}
-use Rattle.pcapng_reader.specs.Front.{kind_of, total_in, least_total}
-use Rattle.pcapng_reader.specs.Breaks.{Row, first_row, first_of, frame_rows, front_break, rest_rows, first_break}
+use Rattle.pcapng_reader.specs.Front.{kind_of, total_length, least_total}
+use Rattle.pcapng_reader.specs.Breaks.{Row, first_row, earlier_break, frame_rows, front_break, rest_rows, first_break}
 use Rattle.pcapng_reader.specs.Blocks.{Packet, Story, extent, packets_in, scope_after, before, unless, story_from, story_at, story_of, at_first}
 use Rattle.pcapng_reader.specs.Reading.{Begins, TailEnds, Reads}
 
@@ -29,7 +29,7 @@ no_row n (r ∷ rs) h = by_test r.applies refl
     by_test false e = (e, rw e at h)
     by_test true e = let bad = rw e at h in cc
 
-pub neither : (a b : Option NgBreak) → first_of a b ≡ None → (a ≡ None) × (b ≡ None)
+pub neither : (a b : Option NgBreak) → earlier_break a b ≡ None → (a ≡ None) × (b ≡ None)
 neither None b h = (refl, h)
 neither (Some e) b h = cc
 
@@ -48,14 +48,14 @@ second false b h = h
 second true b h = cc
 
 -- an unbroken block has all its bytes, and at least twelve
-pub whole_block : (scope : Scope) (n : ℕ) (bytes : List ℕ) → first_break scope n bytes ≡ None → (12 ≤ total_in scope.order (take 28 bytes)) × (total_in scope.order (take 28 bytes) ≤ length bytes)
+pub whole_block : (scope : Scope) (n : ℕ) (bytes : List ℕ) → first_break scope n bytes ≡ None → (12 ≤ total_length scope.order (take 28 bytes)) × (total_length scope.order (take 28 bytes) ≤ length bytes)
 unfolding first_break
 whole_block scope n bytes h =
     let front : List ℕ = take 28 bytes in
     let parts = neither (front_break scope n front) (first_row n (rest_rows scope.order bytes)) h in
     let frame = (neither (first_row n (frame_rows scope.order n front)) _ parts.0).0 in
     let rows : List Row = frame_rows scope.order n front in
-    let total : ℕ = total_in scope.order front in
+    let total : ℕ = total_length scope.order front in
     let numbered = no_row n rows frame in
     let begun = no_row n (later_rows rows) numbered.1 in
     let ordered = no_row n (later_rows (later_rows rows)) begun.1 in

@@ -10,7 +10,7 @@ use Rattle.pcapng_reader.specs.Numbers.{number_at}
 use Rattle.pcapng_reader.specs.Options.{resolution_of}
 use Rattle.pcapng_reader.specs.Time.{nanos_of}
 use Rattle.pcapng_reader.specs.Scope.{Scope}
-use Rattle.pcapng_reader.specs.Front.{kind_of, order_in, total_in, interface_named, bytes_at, captured_of, original_of, ticks_of}
+use Rattle.pcapng_reader.specs.Front.{kind_of, order_in, total_length, interface_named, bytes_at, captured_of, original_of, ticks_of}
 use Rattle.pcapng_reader.specs.Breaks.{first_break}
 
 -- a captured frame: what it begins with, when it came, how long it was on the wire, and its captured bytes
@@ -22,7 +22,7 @@ pub record Packet : Type 0 where
 
 -- how many bytes the block at the front has
 abbrev pub extent : ByteOrder → List ℕ → ℕ
-extent order bytes = total_in order (take 28 bytes)
+extent order bytes = total_length order (take 28 bytes)
 
 -- the interface that a block describes: its options stand between byte 16 and the total length at the end (pcapng, "Interface Description Block")
 abbrev pub described : ByteOrder → List ℕ → Interface

@@ -11,7 +11,7 @@ use Rattle.pcapng_reader.specs.declared.interface.Interface.{Interface}
 use Rattle.pcapng_reader.specs.Numbers.{number_at}
 use Rattle.pcapng_reader.specs.Options.{padded}
 use Rattle.pcapng_reader.specs.Scope.{Scope}
-use Rattle.pcapng_reader.specs.Front.{is_section, kind_of, order_told, order_in, total_in, least_total, looked_at, is_record, interface_named, bytes_at, captured_of}
+use Rattle.pcapng_reader.specs.Front.{is_section, kind_of, order_told, order_in, total_length, least_total, looked_at, is_record, interface_named, bytes_at, captured_of}
 
 -- a row of the table: whether it applies, and the break that it is then
 pub record Row : Type 0 where
@@ -28,9 +28,9 @@ first_row n [] = None
 first_row n (r ∷ rs) = if r.applies then Some (record { block = n; kind = r.kind; value = r.value }) else first_row n rs
 
 -- the first of two breaks
-abbrev pub first_of : Option NgBreak → Option NgBreak → Option NgBreak
-first_of None later = later
-first_of (Some e) later = Some e
+abbrev pub earlier_break : Option NgBreak → Option NgBreak → Option NgBreak
+earlier_break None later = later
+earlier_break (Some e) later = Some e
 
 abbrev pub is_none : {T : Type 0} → Option T → Bool
 is_none None = true
@@ -50,7 +50,7 @@ frame_rows order n front =
     row (n == 4_294_967_295) breaks.Blocks 0
     ∷ row (nat_lt (length front) 8 || (is_section front && nat_lt (length front) 12)) breaks.Short (length front)
     ∷ row (is_section front && is_none (order_told front)) breaks.Order (number_at Big 4 8 front)
-    ∷ row (not (total_in order front % 4 == 0) || nat_lt (total_in order front) (least_total (kind_of order front))) breaks.Length (total_in order front)
+    ∷ row (not (total_length order front % 4 == 0) || nat_lt (total_length order front) (least_total (kind_of order front))) breaks.Length (total_length order front)
     ∷ row (nat_lt (length front) (looked_at (kind_of order front))) breaks.Short (length front)
     ∷ []
 
@@ -82,23 +82,23 @@ record_break n first kind order (Some interface) front = first_row n (record_row
 -- what is wrong at the front of block n
 abbrev pub front_break : Scope → ℕ → List ℕ → Option NgBreak
 front_break scope n front =
-    first_of (first_row n (frame_rows scope.order n front))
-    (first_of (first_row n (section_rows scope.order (length scope.interfaces) front))
+    earlier_break (first_row n (frame_rows scope.order n front))
+    (earlier_break (first_row n (section_rows scope.order (length scope.interfaces) front))
     (if is_record (kind_of scope.order front)
     then record_break n scope.link (kind_of scope.order front) scope.order (slice_get scope.interfaces (interface_named (kind_of scope.order front) scope.order front)) front
     else None))
 
 -- the total length at the end of the block at the front (pcapng, "General Block Structure")
 abbrev pub total_again : ByteOrder → List ℕ → ℕ
-total_again order bytes = number_at (order_in order (take 28 bytes)) 4 (total_in order (take 28 bytes) - 4) bytes
+total_again order bytes = number_at (order_in order (take 28 bytes)) 4 (total_length order (take 28 bytes) - 4) bytes
 
 -- what is wrong behind the front of a block: it is cut off, or tells another total length at its end
 abbrev pub rest_rows : ByteOrder → List ℕ → List Row
 rest_rows order bytes =
-    row (nat_lt (length bytes) (total_in order (take 28 bytes))) breaks.Short (length bytes)
-    ∷ row (not (total_again order bytes == total_in order (take 28 bytes))) breaks.Tail (total_again order bytes)
+    row (nat_lt (length bytes) (total_length order (take 28 bytes))) breaks.Short (length bytes)
+    ∷ row (not (total_again order bytes == total_length order (take 28 bytes))) breaks.Tail (total_again order bytes)
     ∷ []
 
 -- the first break of block n, which these bytes begin with
 unfoldable pub first_break : Scope → ℕ → List ℕ → Option NgBreak
-first_break scope n bytes = first_of (front_break scope n (take 28 bytes)) (first_row n (rest_rows scope.order bytes))
+first_break scope n bytes = earlier_break (front_break scope n (take 28 bytes)) (first_row n (rest_rows scope.order bytes))

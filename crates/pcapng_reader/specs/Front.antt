@@ -39,8 +39,8 @@ unfoldable pub order_in : ByteOrder → List ℕ → ByteOrder
 order_in order front = if is_section front then or_else (order_told front) order else order
 
 -- the total length that the front tells (pcapng, "General Block Structure": Block Total Length)
-abbrev pub total_in : ByteOrder → List ℕ → ℕ
-total_in order front = number_at (order_in order front) 4 4 front
+abbrev pub total_length : ByteOrder → List ℕ → ℕ
+total_length order front = number_at (order_in order front) 4 4 front
 
 -- the least total length of a kind: its fixed fields, and the total length again
 abbrev pub least_total : BlockKind → ℕ

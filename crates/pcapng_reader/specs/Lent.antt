@@ -37,9 +37,9 @@ told_known None = None
 told_known (Some bytes) = Some (told_of bytes)
 
 -- what an error leaves of the source: all of it where memory was refused, and else a read failed
-abbrev pub Refused : {S O : Type 0} → (S → ℕ) → (S → O) → S → S → NgError → Type 0
-Refused faults origin old new NoMemory = new ≡ old
-Refused faults origin old new ReadFault = Rose (faults old) (faults new) × (origin new ≡ origin old)
+abbrev pub LeavesOnError : {S O : Type 0} → (S → ℕ) → (S → O) → S → S → NgError → Type 0
+LeavesOnError faults origin old new NoMemory = new ≡ old
+LeavesOnError faults origin old new ReadFault = Rose (faults old) (faults new) × (origin new ≡ origin old)
 
 -- known bytes lost at most four at their front
 abbrev pub TakesUpToFour : Option (List ℕ) → Option (List ℕ) → Type 0
@@ -63,7 +63,7 @@ SameBreak (Some told) None = ⊥
 SameBreak (Some told) (Some now) = now.broken ≡ told.broken
 
 -- a reading of the bytes at the beginning, of which the source has these left
-pub record GoesOn (p : Progress) (begun left : Option (List ℕ)) : Type 0 where
+pub record ReadsOn (p : Progress) (begun left : Option (List ℕ)) : Type 0 where
   pub broken : SameBreak (told_known begun) (known p left)
   pub over : p.stage ≡ Ended → IsAtEnd left
   pub plain : HandsOn p begun

@@ -1,3 +1,6 @@
+-- Read Numbers, Front, Options, Scope, Time, Breaks and Blocks, the format; Reading, the same as a
+-- relation; and Classic. Progress, Stages and Lent say what a source has still to give. Looks and
+-- Steps serve proofs of bodies alone.
 pub mod Blocks
 pub mod Breaks
 pub mod Classic

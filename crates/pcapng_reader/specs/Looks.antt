@@ -15,13 +15,13 @@ use Rattle.pcapng_reader.specs.declared.turn.Turn.TheVariants as turns
 use Rattle.pcapng_reader.specs.Numbers.{number_at}
 use Rattle.pcapng_reader.specs.Time.{nanos_of}
 use Rattle.pcapng_reader.specs.Scope.{Scope}
-use Rattle.pcapng_reader.specs.Front.{order_in, total_in, looked_at, is_record, interface_named, bytes_at, captured_of, original_of, ticks_of}
+use Rattle.pcapng_reader.specs.Front.{order_in, total_length, looked_at, is_record, interface_named, bytes_at, captured_of, original_of, ticks_of}
 use Rattle.pcapng_reader.specs.Blocks.{before, story_at}
 use Rattle.pcapng_reader.specs.Progress.{story_inside, scope_by, waiting, BlockFits, AddsFit, work_inside}
 
 -- a block, so many bytes of which were looked at
 abbrev pub block_of : ByteOrder → List ℕ → ℕ → Adds → Block
-block_of order front seen adds = record { order = order_in order front; total = total_in order front; rest = total_in order front - seen; adds = adds }
+block_of order front seen adds = record { order = order_in order front; total = total_length order front; rest = total_length order front - seen; adds = adds }
 
 -- what a block without a packet adds
 abbrev pub adds_of : BlockKind → ByteOrder → List ℕ → Adds

@@ -122,8 +122,8 @@ waits_at (Inside block) count = true
 waits_at _ count = false
 
 -- the next block is read before more is given
-abbrev pub waits : Progress → Bool
-waits p = waits_at p.stage (length p.ready + length p.held)
+abbrev pub awaits_block : Progress → Bool
+awaits_block p = waits_at p.stage (length p.ready + length p.held)
 
 -- a byte is kept back, so that none is given last before what follows it is known
 abbrev pub IsPrompt : Option ℕ → ℕ → Type 0

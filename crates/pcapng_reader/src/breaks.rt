@@ -1,6 +1,6 @@
 // The first break at the front of a block.
 ghost use Rattle.std.specs.Prelude.{◌≡◌, ◌≤◌, ◌<◌, ◌+◌, length, true, None, slice_get};
-ghost use Rattle.pcapng_reader.specs.Front.{is_section, kind_of, order_in, total_in, looked_at, is_record, interface_named};
+ghost use Rattle.pcapng_reader.specs.Front.{is_section, kind_of, order_in, total_length, looked_at, is_record, interface_named};
 ghost use Rattle.pcapng_reader.specs.Breaks as rule;
 
 use crate::format::{

@@ -1,7 +1,7 @@
 // The numbers at the front of a block.
 ghost use Rattle.std.specs.Prelude.{◌≡◌, ◌≤◌, ◌<◌, ◌+◌, length, true};
 ghost use Rattle.pcapng_reader.specs.Numbers.{number_at};
-ghost use Rattle.pcapng_reader.specs.Front.{is_section, kind_by, kind_of, order_told, order_in, total_in, least_total, looked_at, is_record, interface_named, bytes_at, bounded, captured_of, original_of, ticks_of};
+ghost use Rattle.pcapng_reader.specs.Front.{is_section, kind_by, kind_of, order_told, order_in, total_length, least_total, looked_at, is_record, interface_named, bytes_at, bounded, captured_of, original_of, ticks_of};
 
 use crate::format::{
     BYTE_ORDER_MAGIC, ENHANCED_PACKET, INTERFACE_DESCRIPTION, SECTION_HEADER, SIMPLE_PACKET,
@@ -76,7 +76,7 @@ pub fn order_at(order: ByteOrder, front: &[u8]) -> ByteOrder
 pub fn total_at(order: ByteOrder, front: &[u8]) -> u32
     requires long { 8 ≤ length front.now }
     requires section { is_section front.now ≡ true → 12 ≤ length front.now }
-    ensures { result ≡ total_in order front.now }
+    ensures { result ≡ total_length order front.now }
 {
     u32_at(order_at(order, front), front, 4)
 }

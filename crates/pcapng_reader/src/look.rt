@@ -1,6 +1,6 @@
 // What stands at the front of a block.
 ghost use Rattle.std.specs.Prelude.{◌≡◌, ◌≤◌, ◌<◌, ◌+◌, length, true, false, None};
-ghost use Rattle.pcapng_reader.specs.Front.{is_section, kind_of, looked_at, is_record, total_in, bytes_at, captured_of};
+ghost use Rattle.pcapng_reader.specs.Front.{is_section, kind_of, looked_at, is_record, total_length, bytes_at, captured_of};
 ghost use Rattle.pcapng_reader.specs.Breaks.{front_break};
 ghost use Rattle.pcapng_reader.specs.Looks.{Looks, opened, opened_record, looked_record, looked_behind};
 
@@ -39,7 +39,7 @@ fn open_other(order: ByteOrder, kind: BlockKind, front: &[u8]) -> Look
     requires looked { looked_at kind ≤ length front.now }
     requires long { 8 ≤ length front.now }
     requires other { is_record kind ≡ false }
-    requires sized { looked_at kind ≤ total_in order front.now }
+    requires sized { looked_at kind ≤ total_length order front.now }
     ensures { result ≡ opened kind order front.now }
 {
     let adds = match kind {
@@ -70,7 +70,7 @@ fn open_record(order: ByteOrder, kind: BlockKind, interface: Interface, front: &
     requires looked { looked_at kind ≤ length front.now }
     requires long { 8 ≤ length front.now }
     requires record { is_record kind ≡ true }
-    requires sized { bytes_at kind + captured_of kind order interface front.now ≤ total_in order front.now }
+    requires sized { bytes_at kind + captured_of kind order interface front.now ≤ total_length order front.now }
     ensures { result ≡ opened_record kind order interface front.now }
 {
     let held = captured_at(kind, order, interface, front);
@@ -107,7 +107,7 @@ fn look_at_record(
     requires long { 8 ≤ length front.now }
     requires record { is_record kind ≡ true }
     requires limit { captured_of kind order interface front.now ≤ 262_144 }
-    requires sized { bytes_at kind + captured_of kind order interface front.now ≤ total_in order front.now }
+    requires sized { bytes_at kind + captured_of kind order interface front.now ≤ total_length order front.now }
     ensures { result ≡ looked_record block kind order interface front.now have ended }
 {
     if have >= payload_at(kind) + captured_at(kind, order, interface, front) as usize {

@@ -1,12 +1,11 @@
 ghost use Rattle.std.specs.Prelude.{◌≡◌, ◌≤◌, ◌<◌, length, take, IfOk, IfErr, OnOk};
 ghost use Rattle.std.specs.Io.KnownBytes.{Consumes, IsAtEnd};
 ghost use Rattle.rss_base.specs.Faults.{HasCause};
-ghost use Rattle.pcapng_reader.specs.Lent.{HasBegun, Refused, TakesUpToFour};
+ghost use Rattle.pcapng_reader.specs.Lent.{HasBegun, LeavesOnError, TakesUpToFour};
 
 use crate::NgError;
 use crate::reading::Reading;
-use crate::window::read_at;
-use rss_base::{Failed, Source};
+use rss_base::{Failed, Source, read_at};
 use std::alloc::Global;
 use std::marker::Model;
 use std::snapshot::Snapshot;
@@ -53,7 +52,7 @@ fn start_reading<S: Source>(alloc: Global, source: &mut S) -> Result<Reading, Ng
     ensures started { IfOk result (λ reading. HasBegun reading (S.left source.old) (S.left source.new)) }
     ensures few { TakesUpToFour (S.left source.old) (S.left source.new) }
     ensures quiet { OnOk result (S.faults source.new ≡ S.faults source.old) }
-    ensures refused { IfErr result (λ error. Refused S.faults S.origin source.old source.new error) }
+    ensures refused { IfErr result (λ error. LeavesOnError S.faults S.origin source.old source.new error) }
     ensures origin { S.origin source.new ≡ S.origin source.old }
 {
     let mut reading = match Reading::new(alloc) {
@@ -78,7 +77,7 @@ impl<S: Source> NgOpening<S> {
         ensures begun { IfOk result (λ opening. opening.begun ≡ source.old) }
         ensures few { TakesUpToFour (S.left source.old) (S.left source.new) }
         ensures quiet { OnOk result (S.faults source.new ≡ S.faults source.old) }
-        ensures refused { IfErr result (λ error. Refused S.faults S.origin source.old source.new error) }
+        ensures refused { IfErr result (λ error. LeavesOnError S.faults S.origin source.old source.new error) }
         ensures origin { S.origin source.new ≡ S.origin source.old }
     {
         let begun = Snapshot::of(source);

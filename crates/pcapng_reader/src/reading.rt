@@ -65,7 +65,7 @@ fn kept_back(stage: Stage) -> usize
 
 impl Reading {
     ghost use Rattle.pcapng_reader.specs.Classic.{is_pcapng};
-    ghost use Rattle.pcapng_reader.specs.Progress.{tells, told_of, behind, waits, BlockFits, AddsFit};
+    ghost use Rattle.pcapng_reader.specs.Progress.{tells, told_of, behind, awaits_block, BlockFits, AddsFit};
     ghost use Rattle.pcapng_reader.specs.Looks.{IsSettled};
     ghost use Rattle.pcapng_reader.specs.Steps.{fresh, hands_on, settled, IsOver, finished, opened_at, passed_over, closed, Stands};
 
@@ -115,8 +115,8 @@ impl Reading {
     }
 
     /// Whether the next block is read before more is given.
-    pub fn waits(&self) -> bool
-        ensures { result ≡ waits self.now }
+    pub fn awaits_block(&self) -> bool
+        ensures { result ≡ awaits_block self.now }
     {
         match self.stage {
             Stage::Between { .. } => self.ready.bytes().len() + self.held < 2,
@@ -141,7 +141,7 @@ impl Reading {
     // Lets go of the block before, and keeps back what is still to be given of it.
     fn settle(&mut self, skip: usize)
         requires stage { self.old.stage ≡ Stage.Between skip }
-        requires waits { waits self.old ≡ true }
+        requires awaits_block { awaits_block self.old ≡ true }
         ensures value { self.new ≡ settled skip self.old }
         ensures skip { skip ≤ length self.old.ahead }
         ensures none { skip ≡ 0 → self.old.held ≡ [] }
@@ -261,7 +261,7 @@ impl Reading {
     /// Goes on by one step, where the input ends behind what was read ahead or may go on. Whether
     /// more bytes are needed for that.
     pub fn step(&mut self, ended: bool) -> bool
-        requires { waits self.old ≡ true }
+        requires { awaits_block self.old ≡ true }
         ensures { Stands self.old self.new ended result }
     {
         match self.stage {
@@ -276,7 +276,7 @@ impl Reading {
 
     /// Gives the next bytes. While blocks may follow, one byte is kept back.
     pub fn give(&mut self, into: &mut [u8]) -> usize
-        requires waits { waits self.old ≡ false }
+        requires awaits_block { awaits_block self.old ≡ false }
         requires hands_on { hands_on self.old ≡ false }
         ensures bound { result ≤ length into.new }
         ensures given { (rest : List ℕ) → tells self.old rest ≡ behind (take result into.new) (tells self.new rest) }

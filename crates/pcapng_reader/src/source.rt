@@ -1,7 +1,7 @@
 ghost use Rattle.std.specs.Prelude.{◌≡◌, ◌≤◌, ◌<◌, List, ℕ, length, take, true, false, None, Some, IfOk, OnErr, OnOk};
 ghost use Rattle.std.specs.Io.KnownBytes.{Keeps, IsAtEnd};
 ghost use Rattle.rss_base.specs.Faults.{HasCause};
-ghost use Rattle.pcapng_reader.specs.Progress.{known, text_known, StaysTold, GivesTold, waits, left_to_do};
+ghost use Rattle.pcapng_reader.specs.Progress.{known, text_known, StaysTold, GivesTold, awaits_block, left_to_do};
 ghost use Rattle.pcapng_reader.specs.Lent.{Begun, classic_known, HasBegun, TakesUpToFour};
 ghost use Rattle.pcapng_reader.specs.Classic.{is_pcapng, break_of};
 ghost use Rattle.pcapng_reader.specs.Stages.{break_at};
@@ -25,18 +25,18 @@ pub struct NgSource<'a, S: Source> {
 }
 
 impl<'a, S: Source> Model for NgSource<'a, S> {
-    ghost use Rattle.pcapng_reader.specs.Lent.{Lent, GoesOn};
+    ghost use Rattle.pcapng_reader.specs.Lent.{Lent, ReadsOn};
 
     ghost Value = { Lent S };
 
     ghost view = { λ n. record { source = n.source; progress = n.reading; begun = n.begun.value } };
 
-    ghost invariant = { λ n. GoesOn n.reading (S.left n.begun.value) (S.left n.source.now) };
+    ghost invariant = { λ n. ReadsOn n.reading (S.left n.begun.value) (S.left n.source.now) };
 }
 
 // Goes on by one step, with one read where that needs more bytes. Whether the source has no more.
 fn go_on<S: Source>(reading: &mut Reading, source: &mut S, ended: bool) -> Result<bool, Failed>
-    requires waits { waits reading.old ≡ true }
+    requires awaits_block { awaits_block reading.old ≡ true }
     requires end { ended ≡ true → IsAtEnd (S.left source.old) }
     ensures told { StaysTold (known reading.old (S.left source.old)) (known reading.new (S.left source.new)) }
     ensures over { reading.new.stage ≡ Stage.Ended → IsAtEnd (S.left source.new) }
@@ -59,13 +59,13 @@ fn advance<S: Source>(reading: &mut Reading, source: &mut S) -> Result<(), Faile
     requires { reading.old.stage ≡ Stage.Ended → IsAtEnd (S.left source.old) }
     ensures told { StaysTold (known reading.old (S.left source.old)) (known reading.new (S.left source.new)) }
     ensures over { reading.new.stage ≡ Stage.Ended → IsAtEnd (S.left source.new) }
-    ensures ready { OnOk result (waits reading.new ≡ false) }
-    ensures still { waits reading.old ≡ false → (reading.new ≡ reading.old) × (source.new ≡ source.old) }
+    ensures ready { OnOk result (awaits_block reading.new ≡ false) }
+    ensures still { awaits_block reading.old ≡ false → (reading.new ≡ reading.old) × (source.new ≡ source.old) }
     ensures cause { HasCause (S.faults source.old) (S.faults source.new) result }
     ensures origin { S.origin source.new ≡ S.origin source.old }
 {
     let mut ended = false;
-    'advancing: while reading.waits() {
+    'advancing: while reading.awaits_block() {
         ended = go_on(reading, source, ended)?;
     }
     Ok(())

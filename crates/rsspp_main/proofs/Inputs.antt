@@ -18,17 +18,17 @@ use Rattle.pcapng_reader.specs.Lent as lent
 use Rattle.packet_fields.specs.declared.packet.PacketInfo.{PacketInfo}
 use Rattle.dispatch_loop.specs.Past.{AreNamed}
 use Rattle.dispatch_loop.specs.Packets.{packet_of}
-use Rattle.dispatch_loop.specs.Stops.{GoesOn}
+use Rattle.dispatch_loop.specs.Stops.{HasRecordMore}
 use Rattle.rsspp_run.specs.OneTable.{AreAll}
 use Rattle.rsspp_run.specs.Refused.{Refuses, Blames}
 use Rattle.rsspp_run.specs.declared.run_end.RunFault.{RunFault}
 use Rattle.rsspp_run.specs.declared.run_end.RunFault.TheVariants as running
 use Rattle.rsspp_main.specs.declared.fault.TopFault.{TopFault}
 use Rattle.rsspp_main.specs.declared.fault.TopFault.TheVariants.{Words, Capture, Block, Line, ReadFault, Undrawn, WriteFault, NoMemory, TooMany}
-use Rattle.rsspp_main.specs.Input.{IsUnbroken, BreaksBy, KeepsUp}
-use Rattle.rsspp_main.specs.Listing.{Lists, ExplainsListing, Listed, classic_course, with_break}
+use Rattle.rsspp_main.specs.Input.{IsUnbroken, BreaksBy, ReadsNoFurther}
+use Rattle.rsspp_main.specs.Listing.{Lists, ExplainsListing, Listed, classic_outcomes, with_break}
 use Rattle.rsspp_main.specs.Reports.{fault_behind, opening_fault, run_fault}
-use Rattle.rsspp_main.specs.Run.{Ends, ends, HasRead, NoReadFailed, Opened, Refused, Unwritten}
+use Rattle.rsspp_main.specs.Run.{Ends, ends, HasRead, NoReadFailed, ReadsAtMostFour, EndsBeforeText, Unwritten}
 use Rattle.rsspp_main.specs.Stops.{Accepts, StopsIn, StopsWith}
 
 -- what a reading of an input tells: its bytes, what was to be given of the classic capture and what is left of it, what the source has left, and the break that was found
@@ -37,17 +37,6 @@ pub record Through (left given rest now : Option (List ℕ)) (broken : Option Ng
   pub told : (bytes : List ℕ) → left ≡ Some bytes → IsAtEnd rest → broken ≡ break_of bytes
   pub none : IsAtEnd rest → broken ≡ None → IsAtEnd now
   pub plain : (bytes : List ℕ) → left ≡ Some bytes → is_pcapng bytes ≡ false → TakesUpToFour rest now
-
--- a reading that was begun over these bytes
-pub through : (left begun opened given rest now : Option (List ℕ)) (broken : Option NgBreak) → begun ≡ left → opened ≡ left → Keeps (classic_known opened) given
-    → ((bytes : List ℕ) → begun ≡ Some bytes → IsAtEnd rest → broken ≡ break_of bytes) → (IsAtEnd rest → broken ≡ None → IsAtEnd now)
-    → ((bytes : List ℕ) → begun ≡ Some bytes → is_pcapng bytes ≡ false → TakesUpToFour rest now) → Through left given rest now broken
-through left begun opened given rest now broken same start keeps told none plain = record {
-  keeps = subst (λ (b : Option (List ℕ)). Keeps (classic_known b) given) start keeps;
-  told = λ bytes is. told bytes (same ∙ is);
-  none = none;
-  plain = λ bytes is. plain bytes (same ∙ is);
-}
 
 -- what holds of known bytes holds of those that they keep
 kept : (P : List ℕ → Type 0) (known given : Option (List ℕ)) → Keeps known given → IfSome given P → IfSome known P
@@ -72,7 +61,7 @@ only None given rest records k h = tt
 only (Some x) None rest records k h = absurd k
 only (Some x) (Some y) rest records k h = subst (λ (b : List ℕ). TakesOnly (Some b) rest records) k h
 
-pub goes_on_kept : (known given rest : Option (List ℕ)) (records : List Captured) → Keeps known given → GoesOn given rest records → GoesOn known rest records
+pub goes_on_kept : (known given rest : Option (List ℕ)) (records : List Captured) → Keeps known given → HasRecordMore given rest records → HasRecordMore known rest records
 goes_on_kept known given rest records k h =
     (h.0, kept (λ bytes. BeginsWith bytes (records ++ h.0 ∷ [])) known given k h.1, no_more known given rest (records ++ h.0 ∷ []) k h.2)
 
@@ -92,7 +81,7 @@ found : (left : Option (List ℕ)) (b c : Option NgBreak) → ((bytes : List ℕ
 found None b c h is = tt
 found (Some bytes) b c h is = sym (h bytes refl) ∙ is
 
-keeps_up : (left rest now : Option (List ℕ)) → ((bytes : List ℕ) → left ≡ Some bytes → is_pcapng bytes ≡ false → TakesUpToFour rest now) → KeepsUp left rest now
+keeps_up : (left rest now : Option (List ℕ)) → ((bytes : List ℕ) → left ≡ Some bytes → is_pcapng bytes ≡ false → TakesUpToFour rest now) → ReadsNoFurther left rest now
 keeps_up None rest now h = tt
 keeps_up (Some bytes) rest now h = h bytes refl
 
@@ -114,7 +103,7 @@ module _ (limit : ℕ) (left given rest now : Option (List ℕ)) (b : Option NgB
   breaks : (e : NgBreak) → IsAtEnd rest → b ≡ Some e → BreaksBy left e
   breaks e end is = found left b (Some e) (λ bytes told. t.told bytes told end) is
 
-  follows : KeepsUp left rest now
+  follows : ReadsNoFurther left rest now
   follows = keeps_up left rest now t.plain
 
   stops_in : (records : List Captured) (fault : TopFault) → StopsWith limit given rest records fault → StopsIn limit left now records fault
@@ -126,12 +115,12 @@ module _ (limit : ℕ) (left given rest now : Option (List ℕ)) (b : Option NgB
 
   module _ (before after : ℕ) where
     -- a block breaks behind the last record
-    pub by_block : (e : NgBreak) (all : List PacketInfo) → AreAll limit given all → IsAtEnd rest → b ≡ Some e → after ≡ before → Refused limit left now before after (Block e)
+    pub by_block : (e : NgBreak) (all : List PacketInfo) → AreAll limit given all → IsAtEnd rest → b ≡ Some e → after ≡ before → EndsBeforeText limit left now before after (Block e)
     by_block e all h end is quiet = ((all, (all_kept all h, breaks e end is)), quiet)
 
     -- where the run was refused, and no block is found to break
     by_fault : (fault : RunFault) → Refuses limit given rest fault → Blames fault before after → (fault ≡ running.NoMemory → TakesUpToFour left now ⊎ ((all : List PacketInfo) × AreAll limit given all × IsAtEnd rest × (b ≡ None)))
-        → Refused limit left now before after (run_fault fault)
+        → EndsBeforeText limit left now before after (run_fault fault)
     by_fault (running.Capture e) stops blames memory = ((stops.0, stops_in stops.0 (Capture e) stops.1), blames)
     by_fault (running.TooMany n) stops blames memory = ((stops.0, stops_in stops.0 (TooMany n) stops.1), blames)
     by_fault running.ReadFault stops blames memory = ((stops.0, stops_in stops.0 ReadFault stops.1), blames)
@@ -146,12 +135,12 @@ module _ (limit : ℕ) (left given rest now : Option (List ℕ)) (b : Option NgB
     -- what a run that was refused says of the input
     pub run_refused : (fault : RunFault) → Refuses limit given rest fault → Blames fault before after
         → (fault ≡ running.NoMemory → (TakesUpToFour left now × (b ≡ None)) ⊎ ((all : List PacketInfo) × AreAll limit given all × IsAtEnd rest))
-        → Refused limit left now before after (fault_behind b fault)
+        → EndsBeforeText limit left now before after (fault_behind b fault)
     run_refused fault stops blames memory = by_break fault b refl stops blames memory
       where
         by_break : (fault : RunFault) (c : Option NgBreak) → b ≡ c → Refuses limit given rest fault → Blames fault before after
             → (fault ≡ running.NoMemory → (TakesUpToFour left now × (b ≡ None)) ⊎ ((all : List PacketInfo) × AreAll limit given all × IsAtEnd rest))
-            → Refused limit left now before after (fault_behind c fault)
+            → EndsBeforeText limit left now before after (fault_behind c fault)
         by_break fault None is stops blames memory = by_fault fault stops blames (λ short. elim (memory short) [
           | inl few ↦ inl few.0
           | inr read ↦ inr (read.0, read.1, read.2, is)
@@ -178,17 +167,17 @@ none_read limit (Some bytes) now few = (
     by_bytes true e = absurd cc
 
 -- what an error at the beginning says of the count of failed reads
-pub quiet_of : {S O : Type 0} (faults : S → ℕ) (origin : S → O) (old new : S) (e : NgError) → lent.Refused faults origin old new e → e ≡ beginning.NoMemory → faults new ≡ faults old
+pub quiet_of : {S O : Type 0} (faults : S → ℕ) (origin : S → O) (old new : S) (e : NgError) → lent.LeavesOnError faults origin old new e → e ≡ beginning.NoMemory → faults new ≡ faults old
 quiet_of faults origin old new beginning.NoMemory r is = ap faults r
 quiet_of faults origin old new beginning.ReadFault r is = absurd cc
 
-pub rose_of : {S O : Type 0} (faults : S → ℕ) (origin : S → O) (old new : S) (e : NgError) → lent.Refused faults origin old new e → e ≡ beginning.ReadFault → Rose (faults old) (faults new)
+pub rose_of : {S O : Type 0} (faults : S → ℕ) (origin : S → O) (old new : S) (e : NgError) → lent.LeavesOnError faults origin old new e → e ≡ beginning.ReadFault → Rose (faults old) (faults new)
 rose_of faults origin old new beginning.NoMemory r is = absurd cc
 rose_of faults origin old new beginning.ReadFault r is = r.0
 
 -- the input could not be begun
 pub not_begun : (limit : ℕ) (left now : Option (List ℕ)) (before after : ℕ) (error : NgError) → TakesUpToFour left now → (error ≡ beginning.NoMemory → after ≡ before) → (error ≡ beginning.ReadFault → Rose before after)
-    → Refused limit left now before after (opening_fault error)
+    → EndsBeforeText limit left now before after (opening_fault error)
 not_begun limit left now before after beginning.NoMemory few quiet rose = (inl few, quiet refl)
 not_begun limit left now before after beginning.ReadFault few quiet rose = (([], none_read limit left now few), rose refl)
 
@@ -214,12 +203,12 @@ module _ (limit : ℕ) (text : List PacketInfo → List ℕ) (old new : Ends) wh
     listed_front written front rose = record { front = front; whole = λ calm. absurd (calm rose) }
 
     -- what a listing of the classic capture says of the input
-    listing_through : (begun → Opened old new) → (r : Result (Unit {0}) TopFault)
-        → MatchResult r (λ _. Lists (classic_course limit given rest begun) text old new None) (λ fault. Lists (classic_course limit given rest begun) text old new (Some fault))
+    listing_through : (begun → ReadsAtMostFour old new) → (r : Result (Unit {0}) TopFault)
+        → MatchResult r (λ _. Lists (classic_outcomes limit given rest begun) text old new None) (λ fault. Lists (classic_outcomes limit given rest begun) text old new (Some fault))
         → MatchResult (with_break b r) (λ _. ExplainsListing limit text old new None) (λ fault. ExplainsListing limit text old new (Some fault))
     listing_through opened r h = by_break r b refl h
       where
-        same : (fault : TopFault) → (fault ≡ WriteFault → b ≡ None) → Lists (classic_course limit given rest begun) text old new (Some fault) → ExplainsListing limit text old new (Some fault)
+        same : (fault : TopFault) → (fault ≡ WriteFault → b ≡ None) → Lists (classic_outcomes limit given rest begun) text old new (Some fault) → ExplainsListing limit text old new (Some fault)
         same (Capture e) is h = (h.0, stopped h.0 (Capture e) h.1, h.2, h.3)
         same (TooMany n) is h = (h.0, stopped h.0 (TooMany n) h.1, h.2, h.3)
         same ReadFault is h = (h.0, stopped h.0 ReadFault h.1, h.2, h.3)
@@ -232,7 +221,7 @@ module _ (limit : ℕ) (text : List PacketInfo → List ℕ) (old new : Ends) wh
         same (Words w) is h = h
 
         by_break : (r : Result (Unit {0}) TopFault) (c : Option NgBreak) → b ≡ c
-            → MatchResult r (λ _. Lists (classic_course limit given rest begun) text old new None) (λ fault. Lists (classic_course limit given rest begun) text old new (Some fault))
+            → MatchResult r (λ _. Lists (classic_outcomes limit given rest begun) text old new None) (λ fault. Lists (classic_outcomes limit given rest begun) text old new (Some fault))
             → MatchResult (with_break c r) (λ _. ExplainsListing limit text old new None) (λ fault. ExplainsListing limit text old new (Some fault))
         by_break (Ok u) None is h = (h.0, (accepted h.0 h.1.0, unbroken limit old.left given rest new.left b t h.1.1 is, t.none h.1.1 is), h.2, h.3)
         by_break (Ok u) (Some e) is h = (h.0, (accepted h.0 h.1.0, breaks limit old.left given rest new.left b t e h.1.1 is), listed_whole (text (map packet_of h.0)) h.2, h.3.reads)
@@ -249,7 +238,7 @@ module _ (limit : ℕ) (text : List PacketInfo → List ℕ) (old new : Ends) wh
 
     -- the same, where the count of failed reads is told of the beginning of the classic capture
     pub listing_over : (first : ℕ) → first ≡ old.read_faults → (r : Result (Unit {0}) TopFault)
-        → MatchResult r (λ _. Lists (classic_course limit given rest begun) text (ends old.left first old.write_faults old.may_hold) new None) (λ fault. Lists (classic_course limit given rest begun) text (ends old.left first old.write_faults old.may_hold) new (Some fault))
-        → (begun → Opened old new) → MatchResult (with_break b r) (λ _. ExplainsListing limit text old new None) (λ fault. ExplainsListing limit text old new (Some fault))
+        → MatchResult r (λ _. Lists (classic_outcomes limit given rest begun) text (ends old.left first old.write_faults old.may_hold) new None) (λ fault. Lists (classic_outcomes limit given rest begun) text (ends old.left first old.write_faults old.may_hold) new (Some fault))
+        → (begun → ReadsAtMostFour old new) → MatchResult (with_break b r) (λ _. ExplainsListing limit text old new None) (λ fault. ExplainsListing limit text old new (Some fault))
     listing_over first is r h opened = listing_through opened r
-        (subst (λ n. MatchResult r (λ _. Lists (classic_course limit given rest begun) text (ends old.left n old.write_faults old.may_hold) new None) (λ fault. Lists (classic_course limit given rest begun) text (ends old.left n old.write_faults old.may_hold) new (Some fault))) is h)
+        (subst (λ n. MatchResult r (λ _. Lists (classic_outcomes limit given rest begun) text (ends old.left n old.write_faults old.may_hold) new None) (λ fault. Lists (classic_outcomes limit given rest begun) text (ends old.left n old.write_faults old.may_hold) new (Some fault))) is h)

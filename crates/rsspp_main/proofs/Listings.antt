@@ -13,7 +13,7 @@ use Rattle.toeplitz.specs.declared.key.Key.{Key}
 use Rattle.rsspp_main.specs.declared.fault.TopFault.{TopFault}
 use Rattle.rsspp_main.specs.declared.fault.TopFault.TheVariants.{Words, Capture, Block, Line, ReadFault, Undrawn, WriteFault, NoMemory, TooMany}
 use Rattle.rsspp_main.specs.Stops.{Accepts, MayFail, StopsWith, top_fault}
-use Rattle.rsspp_main.specs.Listing.{hash_line, listing, listing_from, IsListed, Listed, Lists, Course, classic_course}
+use Rattle.rsspp_main.specs.Listing.{hash_line, listing, listing_from, IsListed, Listed, Lists, ReadingOutcomes, classic_outcomes}
 use Rattle.dispatch_loop.specs.Packets.{packet_of}
 use Rattle.rsspp_main.specs.Run.{Ends, NoReadFailed}
 
@@ -113,17 +113,17 @@ listed_of old new false text l = record { front = l.front; whole = λ calm. l.wh
 listed_of old new true text l = record { front = l.front; whole = λ calm. absurd (calm (l.rose refl)) }
 
 module _ (limit : ℕ) (text : List PacketInfo → List ℕ) (left now : Option (List ℕ)) (begun : Type 0) (old new : Ends) where
-  abbrev course : Course
-  course = classic_course limit left now begun
+  abbrev outcomes : ReadingOutcomes
+  outcomes = classic_outcomes limit left now begun
 
   -- the end of a capture that was read whole
   pub finished : (records : List Captured) (failed : Bool) (r : Result (Unit {0}) TopFault) → Accepts limit left records → IsAtEnd now → NoReadFailed old new → IsListed old.write_faults new.write_faults old.may_hold new.may_hold failed (text (map packet_of records)) → (failed ≡ true → r ≡ Err WriteFault) → (failed ≡ false → r ≡ Ok tt)
-      → MatchResult r (λ _. Lists course text old new None) (λ fault. Lists course text old new (Some fault))
+      → MatchResult r (λ _. Lists outcomes text old new None) (λ fault. Lists outcomes text old new (Some fault))
   finished records false r accepted end quiet l bad good = rw (good refl) (records, (accepted, end), l.whole refl, record { reads = quiet; writes = l.calm refl })
   finished records true r accepted end quiet l bad good = rw (bad refl) (records, (accepted, end), l.front, l.rose refl, quiet)
 
   -- a reading that stopped behind these records
-  pub stopped : (fault : TopFault) (records : List Captured) (failed : Bool) → StopsWith limit left now records fault → IsListed old.write_faults new.write_faults old.may_hold new.may_hold failed (text (map packet_of records)) → MayFail fault old.read_faults new.read_faults → Lists course text old new (Some fault)
+  pub stopped : (fault : TopFault) (records : List Captured) (failed : Bool) → StopsWith limit left now records fault → IsListed old.write_faults new.write_faults old.may_hold new.may_hold failed (text (map packet_of records)) → MayFail fault old.read_faults new.read_faults → Lists outcomes text old new (Some fault)
   stopped (Capture e) records failed s l may = (records, s, listed_of old new failed (text (map packet_of records)) l, may)
   stopped (TooMany n) records failed s l may = (records, s, listed_of old new failed (text (map packet_of records)) l, may)
   stopped ReadFault records failed s l may = (records, s, listed_of old new failed (text (map packet_of records)) l, may)
@@ -136,8 +136,8 @@ module _ (limit : ℕ) (text : List PacketInfo → List ℕ) (left now : Option 
 
   -- no record at all
   pub none_listed : (fault : TopFault) → ((fault ≡ NoMemory) × begun) ⊎ StopsWith limit left now [] fault
-      → IsListed old.write_faults new.write_faults old.may_hold new.may_hold false (text []) → MayFail fault old.read_faults new.read_faults → Lists course text old new (Some fault)
-  none_listed fault (inl lack) l may = subst (λ f. Lists course text old new (Some f)) (sym lack.0) (inl lack.1)
+      → IsListed old.write_faults new.write_faults old.may_hold new.may_hold false (text []) → MayFail fault old.read_faults new.read_faults → Lists outcomes text old new (Some fault)
+  none_listed fault (inl lack) l may = subst (λ f. Lists outcomes text old new (Some f)) (sym lack.0) (inl lack.1)
   none_listed fault (inr s) l may = stopped fault [] false s l may
 
 -- an error of the reader may be blamed as the fault that it is

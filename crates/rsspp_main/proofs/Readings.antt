@@ -15,11 +15,11 @@ use Rattle.pcap_reader.proofs.SoFar.{SoFar-end, SoFar-push, SoFar-break, SoFar-b
 use Rattle.pcap_reader.proofs.Taken.{SoFar-no_more, SoFar-stopped, SoFar-failed, header_stopped, header_failed}
 use Rattle.packet_fields.specs.declared.packet.PacketInfo.{PacketInfo}
 use Rattle.std.proofs.lemmas.List.{map-append}
-use Rattle.dispatch_loop.specs.Packets.{packet_of, packets_in}
+use Rattle.dispatch_loop.specs.Packets.{packet_of, packet_answer}
 use Rattle.dispatch_loop.proofs.Readings.{if_known, packets_none, packets_some, packets_err, advanced}
 use Rattle.rsspp_main.specs.declared.fault.TopFault.{TopFault}
 use Rattle.rsspp_main.specs.declared.fault.TopFault.TheVariants.{NoMemory}
-use Rattle.dispatch_loop.specs.Stops.{GoesOn}
+use Rattle.dispatch_loop.specs.Stops.{HasRecordMore}
 use Rattle.rsspp_main.specs.Stops.{top_fault, StopsWith}
 
 -- what is wrong before the first record, unless it is memory before the first read
@@ -38,7 +38,7 @@ at_start limit left now fault Before (inl lack) = inl lack
 at_start limit left now fault Before (inr s) = inr ([], s)
 
 -- the end of the capture
-pub next_none : (left b n : Option (List ℕ)) (old new : Reading) (a : Result (Option Captured) ReadError) (rs : List Captured) → Ok None ≡ packets_in a → old.progress ≡ Going → Proceeds old new b n a → SoFar left old.form rs (still old b) → IfSome left (λ bytes. Reads bytes rs AtEnd) × IsAtEnd n
+pub next_none : (left b n : Option (List ℕ)) (old new : Reading) (a : Result (Option Captured) ReadError) (rs : List Captured) → Ok None ≡ packet_answer a → old.progress ≡ Going → Proceeds old new b n a → SoFar left old.form rs (still old b) → IfSome left (λ bytes. Reads bytes rs AtEnd) × IsAtEnd n
 next_none left b n old new a rs e going h s =
     let comes = subst (λ (x : Result (Option Captured) ReadError). Comes old.form old.given (still old b) (still new n) x) (packets_none a e) (advanced old new b n a going h).comes in
     (SoFar-end left (still old b) old.form rs s comes.0, left_at_end n new.ahead comes.1)
@@ -51,7 +51,7 @@ pub record OneMore (left n : Option (List ℕ)) (old new : Reading) (rs : List C
   pub going : new.progress ≡ Going
   pub ahead : length new.ahead ≤ MOST_AHEAD
 
-pub next_some : (left b n : Option (List ℕ)) (old new : Reading) (a : Result (Option Captured) ReadError) (rs : List Captured) (p : PacketInfo) → Ok (Some p) ≡ packets_in a → old.progress ≡ Going → Proceeds old new b n a → SoFar left old.form rs (still old b) → (r : Captured) × OneMore left n old new rs p r
+pub next_some : (left b n : Option (List ℕ)) (old new : Reading) (a : Result (Option Captured) ReadError) (rs : List Captured) (p : PacketInfo) → Ok (Some p) ≡ packet_answer a → old.progress ≡ Going → Proceeds old new b n a → SoFar left old.form rs (still old b) → (r : Captured) × OneMore left n old new rs p r
 next_some left b n old new a rs p e going h s =
     let is = packets_some a p e in
     let r = is.0 in
@@ -67,7 +67,7 @@ next_some left b n old new a rs p e going h s =
     )
 
 -- the error of the reader
-pub stopped_later : (limit : ℕ) (left b n : Option (List ℕ)) (old new : Reading) (a : Result (Option Captured) ReadError) (rs : List Captured) (error : ReadError) → Err error ≡ packets_in a → old.progress ≡ Going → Proceeds old new b n a → SoFar left old.form rs (still old b) → old.given ≡ length rs → length rs ≤ limit → StopsWith limit left n rs (top_fault error)
+pub stopped_later : (limit : ℕ) (left b n : Option (List ℕ)) (old new : Reading) (a : Result (Option Captured) ReadError) (rs : List Captured) (error : ReadError) → Err error ≡ packet_answer a → old.progress ≡ Going → Proceeds old new b n a → SoFar left old.form rs (still old b) → old.given ≡ length rs → length rs ≤ limit → StopsWith limit left n rs (top_fault error)
 stopped_later limit left b n old new a rs error e going h s given few =
     let moved = subst (λ (x : Result (Option Captured) ReadError). Advances old new b n x) (packets_err a error e) (advanced old new b n a going h) in
     by_error error moved.comes moved.ahead
@@ -78,7 +78,7 @@ stopped_later limit left b n old new a rs error e going h s given few =
     by_error (reading.Broken x) comes ahead = (few, SoFar-break left (still old b) old.form rs old.given x s comes given, SoFar-stopped left (still old b) n old.form rs (reading.Broken x) s ahead)
 
 -- a record more
-pub goes_on : (left n : Option (List ℕ)) (old new : Reading) (rs : List Captured) (p : PacketInfo) (r : Captured) → OneMore left n old new rs p r → GoesOn left n rs
+pub goes_on : (left n : Option (List ℕ)) (old new : Reading) (rs : List Captured) (p : PacketInfo) (r : Captured) → OneMore left n old new rs p r → HasRecordMore left n rs
 goes_on left n old new rs p r one =
     (r, SoFar-begins left (still new n) new.form (rs ++ r ∷ []) one.so_far, SoFar-no_more left n new.form (rs ++ r ∷ []) new.ahead one.so_far one.ahead)
 

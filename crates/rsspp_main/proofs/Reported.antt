@@ -14,10 +14,10 @@ use Rattle.rsspp_main.specs.declared.fault.TopFault.{TopFault}
 use Rattle.rsspp_main.specs.declared.fault.TopFault.TheVariants.{Words, Capture, Block, Line, ReadFault, Undrawn, WriteFault, NoMemory, TooMany}
 use Rattle.rsspp_main.specs.Demo.{ExplainsDemo}
 use Rattle.rsspp_main.specs.Reports.{IsSerialText, WritesSerial, report_fault}
-use Rattle.rsspp_main.specs.Run.{Ends, Explains, HasRead, NoReadFailed, Refused, Unwritten, report_by}
+use Rattle.rsspp_main.specs.Run.{Ends, Explains, HasRead, NoReadFailed, EndsBeforeText, Unwritten, report_by}
 
 -- a run that ended before its text
-pub unwritten : (limit : ℕ) (Writes : List PacketInfo → List ℕ → Type 0) (old new : Ends) (fault : TopFault) → Refused limit old.left new.left old.read_faults new.read_faults fault → Unwritten old new → Explains limit Writes old new (Some fault)
+pub unwritten : (limit : ℕ) (Writes : List PacketInfo → List ℕ → Type 0) (old new : Ends) (fault : TopFault) → EndsBeforeText limit old.left new.left old.read_faults new.read_faults fault → Unwritten old new → Explains limit Writes old new (Some fault)
 unwritten limit Writes old new (Capture e) h silent = (h, silent)
 unwritten limit Writes old new (Block e) h silent = (h, silent)
 unwritten limit Writes old new (TooMany n) h silent = (h, silent)

@@ -4,7 +4,7 @@ use Rattle.packet_fields.specs.declared.packet.PacketInfo.{PacketInfo}
 use Rattle.bucket_table.specs.declared.custody.Custody.{Custody}
 use Rattle.indirection.specs.JournalView.{JournalState}
 use Rattle.core_queue.specs.RuledLane.{Noted}
-use Rattle.handover_words.specs.declared.eye.Stretch.{Stretch}
+use Rattle.handover_words.specs.declared.history.Stretch.{Stretch}
 use Rattle.dispatch_loop.specs.Terms.{Terms}
 use Rattle.threaded_run.specs.Threaded.{IsThreadedRun}
 use Rattle.rsspp_main.specs.declared.trace.Trace.{Trace}

@@ -14,11 +14,11 @@ use Rattle.rsspp_main.specs.declared.fault.TopFault.{TopFault}
 use Rattle.rsspp_main.specs.declared.fault.TopFault.TheVariants.{Words, Capture, Block, Line, ReadFault, Undrawn, WriteFault, NoMemory, TooMany}
 use Rattle.rsspp_main.specs.Input.{IsUnbroken, BreaksBy}
 use Rattle.rsspp_main.specs.Stops.{Accepts, GoesOnIn, StopsIn, StopsWith}
-use Rattle.dispatch_loop.specs.Stops.{GoesOn}
+use Rattle.dispatch_loop.specs.Stops.{HasRecordMore}
 use Rattle.pcapng_reader.specs.declared.fault.NgBreak.{NgBreak}
 use Rattle.pcapng_reader.specs.Lent.{classic_known}
 use Rattle.dispatch_loop.specs.Packets.{packet_of}
-use Rattle.rsspp_main.specs.Run.{Ends, NoCallFailed, NoReadFailed, Opened}
+use Rattle.rsspp_main.specs.Run.{Ends, NoCallFailed, NoReadFailed, ReadsAtMostFour}
 
 -- the bucket of a packet, and the core that owns it
 abbrev pub bucket_in : Key → List ℕ → PacketInfo → ℕ
@@ -52,7 +52,7 @@ pub record Listed (old new : Ends) (text : List ℕ) : Type 0 where
   pub whole : NoneFailed old.write_faults new.write_faults → Gets old.may_hold new.may_hold text
 
 -- what may come of the reading of a capture, by the records that were read
-pub record Course : Type 1 where
+pub record ReadingOutcomes : Type 1 where
   pub begun : Type 0
   pub ended : List Captured → Type 0
   pub stopped : List Captured → TopFault → Type 0
@@ -60,36 +60,36 @@ pub record Course : Type 1 where
   pub broken : List Captured → NgBreak → Type 0
 
 -- what each outcome says of a run that lists the packets of a capture as they come; None is the outcome of a run that was done
-abbrev pub Lists : Course → (List PacketInfo → List ℕ) → Ends → Ends → Option TopFault → Type 0
-Lists course text old new None = (records : List Captured) × course.ended records × Gets old.may_hold new.may_hold (text (map packet_of records)) × NoCallFailed old new
-Lists course text old new (Some (Capture e)) = (records : List Captured) × course.stopped records (Capture e) × Listed old new (text (map packet_of records)) × NoReadFailed old new
-Lists course text old new (Some (Block e)) = (records : List Captured) × course.broken records e × Listed old new (text (map packet_of records)) × NoReadFailed old new
-Lists course text old new (Some (TooMany n)) = (records : List Captured) × course.stopped records (TooMany n) × Listed old new (text (map packet_of records)) × NoReadFailed old new
-Lists course text old new (Some ReadFault) =
-    (records : List Captured) × course.stopped records ReadFault × Listed old new (text (map packet_of records)) × Rose old.read_faults new.read_faults
-Lists course text old new (Some WriteFault) =
-    (records : List Captured) × course.ended records × GetsFront old.may_hold new.may_hold (text (map packet_of records)) × Rose old.write_faults new.write_faults × NoReadFailed old new
+abbrev pub Lists : ReadingOutcomes → (List PacketInfo → List ℕ) → Ends → Ends → Option TopFault → Type 0
+Lists outcomes text old new None = (records : List Captured) × outcomes.ended records × Gets old.may_hold new.may_hold (text (map packet_of records)) × NoCallFailed old new
+Lists outcomes text old new (Some (Capture e)) = (records : List Captured) × outcomes.stopped records (Capture e) × Listed old new (text (map packet_of records)) × NoReadFailed old new
+Lists outcomes text old new (Some (Block e)) = (records : List Captured) × outcomes.broken records e × Listed old new (text (map packet_of records)) × NoReadFailed old new
+Lists outcomes text old new (Some (TooMany n)) = (records : List Captured) × outcomes.stopped records (TooMany n) × Listed old new (text (map packet_of records)) × NoReadFailed old new
+Lists outcomes text old new (Some ReadFault) =
+    (records : List Captured) × outcomes.stopped records ReadFault × Listed old new (text (map packet_of records)) × Rose old.read_faults new.read_faults
+Lists outcomes text old new (Some WriteFault) =
+    (records : List Captured) × outcomes.ended records × GetsFront old.may_hold new.may_hold (text (map packet_of records)) × Rose old.write_faults new.write_faults × NoReadFailed old new
 -- before the first record, or at one below the limit: the lines of those before it were written
-Lists course text old new (Some NoMemory) =
-    course.begun ⊎ ((records : List Captured) × course.goes_on records × Gets old.may_hold new.may_hold (text (map packet_of records)) × NoCallFailed old new)
-Lists course text old new (Some Undrawn) = ⊥
-Lists course text old new (Some (Line k)) = ⊥
-Lists course text old new (Some (Words w)) = ⊥
+Lists outcomes text old new (Some NoMemory) =
+    outcomes.begun ⊎ ((records : List Captured) × outcomes.goes_on records × Gets old.may_hold new.may_hold (text (map packet_of records)) × NoCallFailed old new)
+Lists outcomes text old new (Some Undrawn) = ⊥
+Lists outcomes text old new (Some (Line k)) = ⊥
+Lists outcomes text old new (Some (Words w)) = ⊥
 
 -- the reading of a classic capture, which had these bytes left and has these now; memory may be refused where this holds
-abbrev pub classic_course : ℕ → Option (List ℕ) → Option (List ℕ) → Type 0 → Course
-classic_course limit left now begun = record {
+abbrev pub classic_outcomes : ℕ → Option (List ℕ) → Option (List ℕ) → Type 0 → ReadingOutcomes
+classic_outcomes limit left now begun = record {
   begun = begun;
   ended = λ records. Accepts limit left records × IsAtEnd now;
   stopped = StopsWith limit left now;
-  goes_on = λ records. (length records < limit) × GoesOn left now records;
+  goes_on = λ records. (length records < limit) × HasRecordMore left now records;
   broken = λ records e. ⊥;
 }
 
 -- the reading of an input as the classic capture that it stands for
-abbrev pub input_course : ℕ → Ends → Ends → Course
-input_course limit old new = record {
-  begun = Opened old new;
+abbrev pub input_outcomes : ℕ → Ends → Ends → ReadingOutcomes
+input_outcomes limit old new = record {
+  begun = ReadsAtMostFour old new;
   ended = λ records. Accepts limit (classic_known old.left) records × IsUnbroken old.left × IsAtEnd new.left;
   stopped = StopsIn limit old.left new.left;
   goes_on = λ records. (length records < limit) × GoesOnIn old.left new.left records;
@@ -98,7 +98,7 @@ input_course limit old new = record {
 
 -- what each outcome says of a run that lists the packets of an input
 abbrev pub ExplainsListing : ℕ → (List PacketInfo → List ℕ) → Ends → Ends → Option TopFault → Type 0
-ExplainsListing limit text old new fault = Lists (input_course limit old new) text old new fault
+ExplainsListing limit text old new fault = Lists (input_outcomes limit old new) text old new fault
 
 -- the answer to a listing over an input whose blocks break so, if they do: a break behind its last record comes before a failed write
 abbrev pub with_break : Option NgBreak → Result Unit TopFault → Result Unit TopFault

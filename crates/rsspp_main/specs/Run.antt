@@ -33,6 +33,10 @@ pub record Ends : Type 1 where
 abbrev pub ends : Option (List ℕ) → ℕ → ℕ → (List ℕ → Type 0) → Ends
 ends left read_faults write_faults may_hold = record { left = left; read_faults = read_faults; write_faults = write_faults; may_hold = may_hold }
 
+-- the same of a source and an output, by what each of them tells
+abbrev pub ends_at : {S K : Type 0} → (S → Option (List ℕ)) → (S → ℕ) → (K → ℕ) → (K → List ℕ → Type 0) → S → K → Ends
+ends_at left read_faults write_faults may_hold source out = ends (left source) (read_faults source) (write_faults out) (may_hold out)
+
 -- nothing was written
 abbrev pub Silent : Ends → Ends → Type 0
 Silent old new = (bytes : List ℕ) → old.may_hold bytes → new.may_hold bytes
@@ -61,7 +65,7 @@ pub record Unwritten (old new : Ends) : Type 0 where
   pub writes : NoWriteFailed old new
 
 -- at most four bytes were read, nothing was written, and nothing failed
-pub record Opened (old new : Ends) : Type 0 where
+pub record ReadsAtMostFour (old new : Ends) : Type 0 where
   pub few : TakesUpToFour old.left new.left
   pub reads : NoReadFailed old new
   pub unwritten : Unwritten old new
@@ -75,17 +79,17 @@ abbrev pub HasBroken : ℕ → Option (List ℕ) → NgBreak → List PacketInfo
 HasBroken limit left e all = AreAll limit (classic_known left) all × BreaksBy left e
 
 -- what a run that ended before its text says of its input: of the bytes before and now, and of the counts of failed reads
-abbrev pub Refused : ℕ → Option (List ℕ) → Option (List ℕ) → ℕ → ℕ → TopFault → Type 0
-Refused limit left now before after (Capture e) = ((records : List Captured) × StopsIn limit left now records (Capture e)) × (after ≡ before)
-Refused limit left now before after (Block e) = ((all : List PacketInfo) × HasBroken limit left e all) × (after ≡ before)
-Refused limit left now before after (TooMany n) = ((records : List Captured) × StopsIn limit left now records (TooMany n)) × (after ≡ before)
-Refused limit left now before after ReadFault = ((records : List Captured) × StopsIn limit left now records ReadFault) × Rose before after
+abbrev pub EndsBeforeText : ℕ → Option (List ℕ) → Option (List ℕ) → ℕ → ℕ → TopFault → Type 0
+EndsBeforeText limit left now before after (Capture e) = ((records : List Captured) × StopsIn limit left now records (Capture e)) × (after ≡ before)
+EndsBeforeText limit left now before after (Block e) = ((all : List PacketInfo) × HasBroken limit left e all) × (after ≡ before)
+EndsBeforeText limit left now before after (TooMany n) = ((records : List Captured) × StopsIn limit left now records (TooMany n)) × (after ≡ before)
+EndsBeforeText limit left now before after ReadFault = ((records : List Captured) × StopsIn limit left now records ReadFault) × Rose before after
 -- before the first record, or behind the last one
-Refused limit left now before after NoMemory = (TakesUpToFour left now ⊎ ((all : List PacketInfo) × HasRead limit left now all)) × (after ≡ before)
-Refused limit left now before after Undrawn = ⊥
-Refused limit left now before after WriteFault = ⊥
-Refused limit left now before after (Line k) = ⊥
-Refused limit left now before after (Words w) = ⊥
+EndsBeforeText limit left now before after NoMemory = (TakesUpToFour left now ⊎ ((all : List PacketInfo) × HasRead limit left now all)) × (after ≡ before)
+EndsBeforeText limit left now before after Undrawn = ⊥
+EndsBeforeText limit left now before after WriteFault = ⊥
+EndsBeforeText limit left now before after (Line k) = ⊥
+EndsBeforeText limit left now before after (Words w) = ⊥
 
 -- a text that a run over these packets writes was written, and a front of it
 abbrev pub Wrote : ℕ → (List PacketInfo → List ℕ → Type 0) → Ends → Ends → Type 0
@@ -102,8 +106,8 @@ Explains limit Writes old new None = Wrote limit Writes old new × NoCallFailed 
 Explains limit Writes old new (Some WriteFault) = WroteFront limit Writes old new × Rose old.write_faults new.write_faults × NoReadFailed old new
 -- before the text, or within it
 Explains limit Writes old new (Some NoMemory) =
-    (Refused limit old.left new.left old.read_faults new.read_faults NoMemory × Unwritten old new) ⊎ (WroteFront limit Writes old new × NoCallFailed old new)
-Explains limit Writes old new (Some fault) = Refused limit old.left new.left old.read_faults new.read_faults fault × Unwritten old new
+    (EndsBeforeText limit old.left new.left old.read_faults new.read_faults NoMemory × Unwritten old new) ⊎ (WroteFront limit Writes old new × NoCallFailed old new)
+Explains limit Writes old new (Some fault) = EndsBeforeText limit old.left new.left old.read_faults new.read_faults fault × Unwritten old new
 
 -- what each outcome says of a run that writes this text and reads nothing
 abbrev pub ExplainsText : List ℕ → Ends → Ends → Option TopFault → Type 0

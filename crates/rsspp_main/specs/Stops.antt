@@ -5,9 +5,9 @@ use Rattle.pcap_reader.specs.declared.fault.ReadError.{ReadError}
 use Rattle.pcap_reader.specs.declared.fault.ReadError.TheVariants as reading
 use Rattle.pcap_reader.specs.Capture.{Captured, IsCapture}
 use Rattle.dispatch_loop.specs.declared.dispatcher_end.DispatcherEnd.TheVariants as end
-use Rattle.dispatch_loop.specs.Stops.{GoesOn, StopsBy}
+use Rattle.dispatch_loop.specs.Stops.{HasRecordMore, StopsBy}
 use Rattle.pcapng_reader.specs.Lent.{classic_known}
-use Rattle.rsspp_main.specs.Input.{KeepsUp}
+use Rattle.rsspp_main.specs.Input.{ReadsNoFurther}
 use Rattle.rsspp_main.specs.declared.fault.TopFault.{TopFault}
 use Rattle.rsspp_main.specs.declared.fault.TopFault.TheVariants.{Words, Capture, Block, Line, ReadFault, Undrawn, WriteFault, NoMemory, TooMany}
 
@@ -35,11 +35,11 @@ StopsWith limit left now records (Words w) = ⊥
 
 -- the reading of the classic capture that an input stands for stopped so. An input that is no pcapng capture was read no further than that; of a pcapng capture the blocks up to the next record may have been
 abbrev pub StopsIn : ℕ → Option (List ℕ) → Option (List ℕ) → List Captured → TopFault → Type 0
-StopsIn limit left now records fault = (rest : Option (List ℕ)) × StopsWith limit (classic_known left) rest records fault × KeepsUp left rest now
+StopsIn limit left now records fault = (rest : Option (List ℕ)) × StopsWith limit (classic_known left) rest records fault × ReadsNoFurther left rest now
 
 -- a record more stands behind these in the classic capture that an input stands for
 abbrev pub GoesOnIn : Option (List ℕ) → Option (List ℕ) → List Captured → Type 0
-GoesOnIn left now records = (rest : Option (List ℕ)) × GoesOn (classic_known left) rest records × KeepsUp left rest now
+GoesOnIn left now records = (rest : Option (List ℕ)) × HasRecordMore (classic_known left) rest records × ReadsNoFurther left rest now
 
 -- a failed read is a read fault, and no other answer of the reading comes after one
 abbrev pub MayFail : TopFault → ℕ → ℕ → Type 0

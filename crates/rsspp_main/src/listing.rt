@@ -2,7 +2,7 @@
 ghost use Rattle.std.specs.Prelude.{◌≡◌, ◌<◌, ℕ, List, [], true, false, length, Option, None, Some, Ok, Err, OnOk, OnErr, IfOk, IfErr, MatchResult};
 ghost use Rattle.rss_base.specs.Faults.{Rose};
 ghost use Rattle.rss_base.specs.Written.{Gets};
-ghost use Rattle.rsspp_main.specs.Listing.{hash_line, listing, classic_course, IsListed, Lists};
+ghost use Rattle.rsspp_main.specs.Listing.{hash_line, listing, classic_outcomes, IsListed, Lists};
 ghost use Rattle.rsspp_main.specs.Run.{ends};
 ghost use Rattle.rsspp_main.specs.Stops.{top_fault};
 
@@ -116,7 +116,7 @@ pub fn list_hashes<S: Source, K: Sink>(
     ensures outcome { (left rest : Option (List ℕ)) → let before = ends left (S.faults source.old) (K.faults out.old) (K.may_hold out.old) in
         let now = ends rest (S.faults source.new) (K.faults out.new) (K.may_hold out.new) in
         let begun = (source.new ≡ source.old) × (out.new ≡ out.old) in
-        let lists = Lists (classic_course limit (S.left source.old) (S.left source.new) begun) (listing key.now spread.now.owners) before now in
+        let lists = Lists (classic_outcomes limit (S.left source.old) (S.left source.new) begun) (listing key.now spread.now.owners) before now in
         MatchResult result (λ _. lists None) (λ fault. lists (Some fault)) }
     ensures origin { S.origin source.new ≡ S.origin source.old }
 {

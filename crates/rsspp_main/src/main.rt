@@ -2,6 +2,10 @@
 //!
 //! [`rsspp`] is the whole program over any source and any sinks, and its contract says what each
 //! status means for the bytes that were read and written. `main` makes the real ends and calls it.
+//!
+//! Read `specs/Status.antt`, `specs/Run.antt` and `specs/Answers.antt`, then `fault.rt` and
+//! `top.rt`; then a mode with its definition: `serial.rt` (Reports), `threaded.rt` (Threads),
+//! `demo.rt` (Demo), `listing.rt` (Listing), `modes.rt` (Plan).
 #![tactic(auto)]
 
 mod demo;

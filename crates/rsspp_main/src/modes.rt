@@ -5,7 +5,7 @@ ghost use Rattle.rss_base.specs.Written.{Gets, GetsFront};
 ghost use Rattle.traffic_gen.specs.Traffic.{traffic};
 ghost use Rattle.rsspp_main.specs.Listing.{listing, ExplainsListing};
 ghost use Rattle.rsspp_main.specs.Plan.{plan_fault, ExplainsPlan};
-ghost use Rattle.rsspp_main.specs.Run.{ends};
+ghost use Rattle.rsspp_main.specs.Run.{ends_at};
 
 use crate::TopFault;
 use crate::input::{answer_to_listing, fault_of_opening};
@@ -26,8 +26,8 @@ pub fn hash_listing<S: Source, K: Sink>(
     source: &mut S,
     out: &mut K,
 ) -> Result<(), TopFault>
-    ensures outcome { let before = ends (S.left source.old) (S.faults source.old) (K.faults out.old) (K.may_hold out.old) in
-        let now = ends (S.left source.new) (S.faults source.new) (K.faults out.new) (K.may_hold out.new) in
+    ensures outcome { let at = ends_at S.left S.faults K.faults K.may_hold in
+        let before = at source.old out.old in let now = at source.new out.new in
         let text = listing command.now.options.key command.now.options.start.owners in
         let explains = ExplainsListing command.now.options.packets text before now in
         MatchResult result (λ _. explains None) (λ fault. explains (Some fault)) }
@@ -71,8 +71,8 @@ fn fault_of_plan(fault: PlanFault) -> TopFault
 /// Reads a plan text on the source, and writes the moves of its round, and the loads and the
 /// imbalance after them.
 pub fn plan<S: Source, K: Sink>(alloc: Global, source: &mut S, out: &mut K) -> Result<(), TopFault>
-    ensures outcome { let before = ends (S.left source.old) (S.faults source.old) (K.faults out.old) (K.may_hold out.old) in
-        let now = ends (S.left source.new) (S.faults source.new) (K.faults out.new) (K.may_hold out.new) in
+    ensures outcome { let at = ends_at S.left S.faults K.faults K.may_hold in
+        let before = at source.old out.old in let now = at source.new out.new in
         let explains = ExplainsPlan before now in
         MatchResult result (λ _. explains None) (λ fault. explains (Some fault)) }
     ensures origin { S.origin source.new ≡ S.origin source.old }

@@ -17,7 +17,7 @@ ghost use Rattle.rsspp_run.specs.Refused.{Refuses, HasRunCause};
 ghost use Rattle.rsspp_main.specs.Reports.{AreShown, IsReportable, IsSerialText, WritesSerial, bucket_by, journal_part, report_fault, run_fault};
 ghost use Rattle.pcapng_reader.specs.Lent.{classic_known};
 ghost use Rattle.rsspp_main.specs.Input.{IsUnbroken};
-ghost use Rattle.rsspp_main.specs.Run.{ends, Explains, Refused};
+ghost use Rattle.rsspp_main.specs.Run.{ends_at, Explains, EndsBeforeText};
 
 use crate::TopFault;
 use crate::input::{fault_of_opening, fault_of_run_over};
@@ -102,7 +102,7 @@ fn run_input<N: RunName, S: Source, W: FlowWork>(
         × StandTogether W.opening W.after (bucket_by options.now.key (length options.now.start.owners)) shown end.tables.items) }
     ensures ready { IfOk result (λ end. IsReportable end.tables.items end.journal.entries) }
     ensures whole { OnOk result (IsUnbroken (S.left source.old) × IsAtEnd (S.left source.new) × (S.faults source.new ≡ S.faults source.old)) }
-    ensures refused { IfErr result (λ fault. Refused options.now.packets (S.left source.old) (S.left source.new) (S.faults source.old) (S.faults source.new) fault) }
+    ensures refused { IfErr result (λ fault. EndsBeforeText options.now.packets (S.left source.old) (S.left source.new) (S.faults source.old) (S.faults source.new) fault) }
     ensures origin { S.origin source.new ≡ S.origin source.old }
 {
     let opening = match NgOpening::read(alloc, source) {
@@ -176,8 +176,8 @@ fn report_by<N: RunName, S: Source, W: FlowWork, K: Sink>(
 ) -> Result<(), TopFault>
     requires accepted { IsAccepted command.now.options }
     requires named { AreNamed N.packets command.now.options.packets (classic_known (S.left source.old)) }
-    ensures outcome { let before = ends (S.left source.old) (S.faults source.old) (K.faults out.old) (K.may_hold out.old) in
-        let now = ends (S.left source.new) (S.faults source.new) (K.faults out.new) (K.may_hold out.new) in
+    ensures outcome { let at = ends_at S.left S.faults K.faults K.may_hold in
+        let before = at source.old out.old in let now = at source.new out.new in
         let options = command.now.options in
         let writes = IsSerialText N.packets (report W.opening W.after W.line_text) command.now.journal (terms_of W.cost_of options) options.pool number in
         let explains = Explains options.packets writes before now in
@@ -214,8 +214,8 @@ pub fn serial_report<N: RunName, S: Source, K: Sink>(
 ) -> Result<(), TopFault>
     requires accepted { IsAccepted command.now.options }
     requires named { AreNamed N.packets command.now.options.packets (classic_known (S.left source.old)) }
-    ensures outcome { let before = ends (S.left source.old) (S.faults source.old) (K.faults out.old) (K.may_hold out.old) in
-        let now = ends (S.left source.new) (S.faults source.new) (K.faults out.new) (K.may_hold out.new) in
+    ensures outcome { let at = ends_at S.left S.faults K.faults K.may_hold in
+        let before = at source.old out.old in let now = at source.new out.new in
         let explains = Explains command.now.options.packets (WritesSerial N.packets command.now number) before now in
         MatchResult result (λ _. explains None) (λ fault. explains (Some fault)) }
     ensures origin { S.origin source.new ≡ S.origin source.old }

@@ -13,7 +13,7 @@ ghost use Rattle.rsspp_run.specs.Refused.{Refuses, HasRunCause};
 ghost use Rattle.rsspp_main.specs.Reports.{AreShown, IsReportable, bucket_by};
 ghost use Rattle.pcapng_reader.specs.Lent.{classic_known};
 ghost use Rattle.rsspp_main.specs.Input.{IsUnbroken};
-ghost use Rattle.rsspp_main.specs.Run.{ends, Explains, Refused};
+ghost use Rattle.rsspp_main.specs.Run.{ends_at, Explains, EndsBeforeText};
 ghost use Rattle.rsspp_main.specs.Run as commands;
 ghost use Rattle.rsspp_main.specs.Threads.{IsThreadedText};
 
@@ -97,7 +97,7 @@ fn threads_over_input<
     ensures ready { IfOk result (λ end. IsReportable end.tables.items end.journal.entries) }
     ensures shelf { IfOk result (λ end. IsSome end.shelf) }
     ensures whole { OnOk result (IsUnbroken (S.left source.old) × IsAtEnd (S.left source.new) × (S.faults source.new ≡ S.faults source.old)) }
-    ensures refused { IfErr result (λ fault. Refused options.now.packets (S.left source.old) (S.left source.new) (S.faults source.old) (S.faults source.new) fault) }
+    ensures refused { IfErr result (λ fault. EndsBeforeText options.now.packets (S.left source.old) (S.left source.new) (S.faults source.old) (S.faults source.new) fault) }
     ensures origin { S.origin source.new ≡ S.origin source.old }
 {
     let opening = match NgOpening::read(alloc, source) {
@@ -168,8 +168,8 @@ fn threaded_by<
 ) -> Result<Trace, TopFault>
     requires accepted { IsAccepted command.now.options }
     requires named { AreNamed N.packets command.now.options.packets (classic_known (S.left source.old)) }
-    ensures outcome { let before = ends (S.left source.old) (S.faults source.old) (K.faults out.old) (K.may_hold out.old) in
-        let now = ends (S.left source.new) (S.faults source.new) (K.faults out.new) (K.may_hold out.new) in
+    ensures outcome { let at = ends_at S.left S.faults K.faults K.may_hold in
+        let before = at source.old out.old in let now = at source.new out.new in
         let options = command.now.options in
         let writes = IsThreadedText N.packets (report W.opening W.after W.line_text) command.now.journal (terms_of W.cost_of options) in
         MatchResult result (λ run. Explains options.packets (writes (Some run)) before now None) (λ fault. Explains options.packets (writes None) before now (Some fault)) }
@@ -214,8 +214,8 @@ pub fn threaded_report<
 ) -> Result<Trace, TopFault>
     requires accepted { IsAccepted command.now.options }
     requires named { AreNamed N.packets command.now.options.packets (classic_known (S.left source.old)) }
-    ensures outcome { let before = ends (S.left source.old) (S.faults source.old) (K.faults out.old) (K.may_hold out.old) in
-        let now = ends (S.left source.new) (S.faults source.new) (K.faults out.new) (K.may_hold out.new) in
+    ensures outcome { let at = ends_at S.left S.faults K.faults K.may_hold in
+        let before = at source.old out.old in let now = at source.new out.new in
         let options = command.now.options in
         let writes = IsThreadedText N.packets (commands.report_by options.work) command.now.journal (commands.run_terms options) in
         MatchResult result (λ run. Explains options.packets (writes (Some run)) before now None) (λ fault. Explains options.packets (writes None) before now (Some fault)) }

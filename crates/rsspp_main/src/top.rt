@@ -20,7 +20,7 @@ ghost use Rattle.traffic_gen.specs.Traffic.{traffic};
 ghost use Rattle.dispatch_loop.specs.Accepted.{IsAccepted};
 ghost use Rattle.dispatch_loop.specs.Past.{AreNamed};
 ghost use Rattle.rsspp_main.specs.Demo.{ExplainsDemo};
-ghost use Rattle.rsspp_main.specs.Run.{ends, Explains, report_by};
+ghost use Rattle.rsspp_main.specs.Run.{ends, ends_at, Explains, report_by};
 ghost use Rattle.rsspp_main.specs.Threads.{WritesRun, IsTold, ToldOfDemo};
 ghost use Rattle.rsspp_main.specs.Status.{status_of};
 ghost use Rattle.rsspp_main.specs.declared.fault.TopFault.{TopFault};
@@ -79,8 +79,8 @@ fn run_report<
 ) -> Result<Option<Trace>, TopFault>
     requires accepted { IsAccepted command.now.options }
     requires named { AreNamed N.packets command.now.options.packets (classic_known (S.left source.old)) }
-    ensures outcome { let before = ends (S.left source.old) (S.faults source.old) (K.faults out.old) (K.may_hold out.old) in
-        let now = ends (S.left source.new) (S.faults source.new) (K.faults out.new) (K.may_hold out.new) in
+    ensures outcome { let at = ends_at S.left S.faults K.faults K.may_hold in
+        let before = at source.old out.old in let now = at source.new out.new in
         let c = command.now in
         MatchResult result (λ told. Explains c.options.packets (WritesRun N.packets c c.serial told) before now None × IsTold c.serial None told)
         (λ fault. Explains c.options.packets (WritesRun N.packets c c.serial None) before now (Some fault) × IsTold c.serial (Some fault) None) }
@@ -151,8 +151,8 @@ fn run<
 ) -> Result<Option<Trace>, TopFault>
     requires accepted { IsAcceptedCommand command.now }
     requires named { NamesRunOf N.packets command.now.mode command.now (S.left source.old) }
-    ensures outcome { let before = ends (S.left source.old) (S.faults source.old) (K.faults out.old) (K.may_hold out.old) in
-        let now = ends (S.left source.new) (S.faults source.new) (K.faults out.new) (K.may_hold out.new) in
+    ensures outcome { let at = ends_at S.left S.faults K.faults K.may_hold in
+        let before = at source.old out.old in let now = at source.new out.new in
         MatchResult result (λ told. Does hashing N.packets told command.now.mode command.now before now None) (λ fault. Does hashing N.packets None command.now.mode command.now before now (Some fault)) }
     ensures origin { S.origin source.new ≡ S.origin source.old }
 {
@@ -190,8 +190,8 @@ fn read_and_run<
     gate: &G,
 ) -> Result<Option<Trace>, TopFault>
     requires named { NamesRun N.packets (command_of (map string_bytes words.now)) (S.left source.old) }
-    ensures outcome { let before = ends (S.left source.old) (S.faults source.old) (K.faults out.old) (K.may_hold out.old) in
-        let now = ends (S.left source.new) (S.faults source.new) (K.faults out.new) (K.may_hold out.new) in
+    ensures outcome { let at = ends_at S.left S.faults K.faults K.may_hold in
+        let before = at source.old out.old in let now = at source.new out.new in
         let asked = command_of (map string_bytes words.now) in
         MatchResult result (λ told. Answers hashing N.packets told asked before now None) (λ fault. Answers hashing N.packets None asked before now (Some fault)) }
     ensures look { IsTrue (is_refused (map string_bytes words.now)) → result ≡ Err (TopFault.Words WordFault.Words) }
@@ -238,8 +238,8 @@ pub fn rsspp<
     // its packets, where they are named; where the words ask for the journal, that of the run
     // stands behind it. Of a run in threads the trace tells that very journal and its custody, with
     // the notes of what the threads shared: each bucket's table has one history.
-    ensures outcome { let before = ends (S.left source.old) (S.faults source.old) (K.faults out.old) (K.may_hold out.old) in
-        let now = ends (S.left source.new) (S.faults source.new) (K.faults out.new) (K.may_hold out.new) in
+    ensures outcome { let at = ends_at S.left S.faults K.faults K.may_hold in
+        let before = at source.old out.old in let now = at source.new out.new in
         (fault : Option TopFault) × (result.status ≡ status_of fault)
         × Answers hashing N.packets result.trace (command_of (map string_bytes words.now)) before now fault
         × Says (F.faults notes.old) (F.faults notes.new) (F.may_hold notes.old) (F.may_hold notes.new) (note_of fault) }

@@ -19,9 +19,9 @@ use Rattle.indirection.specs.Stints.{Stint, stint, stints, stints_from, ended}
 use Rattle.indirection.specs.Due.{Rules}
 use Rattle.indirection.specs.Lawful.{IsLawfulSoFar}
 use Rattle.handover_core.specs.Spans.{Span, spans_at}
-use Rattle.worker_loop.specs.Custodies.{history, stretch_of, AreEntries}
+use Rattle.worker_loop.specs.Custodies.{ended_spans, stretch_of, AreEntries}
 use Rattle.rsspp_run.specs.Custody.{custody_upto, all_logs, Before, AllAre, IsOrdered, same_custody, times, AreOfCores, AreTo, Meet, times_in, all_spans, stint_span}
-use Rattle.rsspp_run.specs.Serial.{place_into, by_place}
+use Rattle.rsspp_run.specs.Serial.{place_custody, by_place}
 use Rattle.rsspp_run.proofs.CustodySums.{logs_in_order}
 use Rattle.rsspp_run.proofs.CustodyNotes.{note_stints}
 
@@ -60,18 +60,18 @@ all_later : (y x : Custody) (ys : List Custody) → ¬ (Before y x) → AllAre (
 all_later y x [] h k = tt
 all_later y x (z ∷ ys) h k = (not_trans z y x k.0 h, all_later y x ys h k.1)
 
-all_place : (P : Custody → Type 0) (x : Custody) (ys : List Custody) → P x → AllAre P ys → AllAre P (place_into x ys)
+all_place : (P : Custody → Type 0) (x : Custody) (ys : List Custody) → P x → AllAre P ys → AllAre P (place_custody x ys)
 all_place P x [] h k = (h, tt)
 all_place P x (y ∷ ys) h k = ⊎_elim
-    (λ (t : Before y x × (test y x ≡ true)). subst (λ (b : Bool). AllAre P (if b then y ∷ place_into x ys else x ∷ y ∷ ys)) (sym t.1) (k.0, all_place P x ys h k.1))
-    (λ (t : ¬ (Before y x) × (test y x ≡ false)). subst (λ (b : Bool). AllAre P (if b then y ∷ place_into x ys else x ∷ y ∷ ys)) (sym t.1) (h, k)) (before_or y x)
+    (λ (t : Before y x × (test y x ≡ true)). subst (λ (b : Bool). AllAre P (if b then y ∷ place_custody x ys else x ∷ y ∷ ys)) (sym t.1) (k.0, all_place P x ys h k.1))
+    (λ (t : ¬ (Before y x) × (test y x ≡ false)). subst (λ (b : Bool). AllAre P (if b then y ∷ place_custody x ys else x ∷ y ∷ ys)) (sym t.1) (h, k)) (before_or y x)
 
-place_ordered : (x : Custody) (ys : List Custody) → IsOrdered ys → IsOrdered (place_into x ys)
+place_ordered : (x : Custody) (ys : List Custody) → IsOrdered ys → IsOrdered (place_custody x ys)
 place_ordered x [] o = (tt, tt)
 place_ordered x (y ∷ ys) o = ⊎_elim
-    (λ (t : Before y x × (test y x ≡ true)). subst (λ (b : Bool). IsOrdered (if b then y ∷ place_into x ys else x ∷ y ∷ ys)) (sym t.1)
+    (λ (t : Before y x × (test y x ≡ true)). subst (λ (b : Bool). IsOrdered (if b then y ∷ place_custody x ys else x ∷ y ∷ ys)) (sym t.1)
     (all_place (λ z. ¬ (Before z y)) x ys (not_both x y t.0) o.0, place_ordered x ys o.1))
-    (λ (t : ¬ (Before y x) × (test y x ≡ false)). subst (λ (b : Bool). IsOrdered (if b then y ∷ place_into x ys else x ∷ y ∷ ys)) (sym t.1) ((t.0, all_later y x ys t.0 o.0), o)) (before_or y x)
+    (λ (t : ¬ (Before y x) × (test y x ≡ false)). subst (λ (b : Bool). IsOrdered (if b then y ∷ place_custody x ys else x ∷ y ∷ ys)) (sym t.1) ((t.0, all_later y x ys t.0 o.0), o)) (before_or y x)
 
 pub by_place_ordered : (xs : List Custody) → IsOrdered (by_place xs)
 by_place_ordered [] = tt
@@ -105,11 +105,11 @@ not_less y x is b = let e : true ≡ false = sym (less_by_key y x b) ∙ is in a
 pub sorted_ordered : (xs : List Custody) → IsSortedByKey key_of by_key xs → IsOrdered xs
 sorted_ordered xs up = neighbours_ordered xs (λ k d lt. subst (λ (n : ℕ). ¬ (Before (get_or xs n d) (get_or xs k d))) (add-one k) (not_less (get_or xs (k + 1) d) (get_or xs k d) (up k d (omega arith) (omega arith))))
 
-place_times : (z x : Custody) (ys : List Custody) → times z (place_into x ys) ≡ times z (x ∷ ys)
+place_times : (z x : Custody) (ys : List Custody) → times z (place_custody x ys) ≡ times z (x ∷ ys)
 place_times z x [] = refl
 place_times z x (y ∷ ys) = let ih = place_times z x ys in ⊎_elim
-    (λ (t : Before y x × (test y x ≡ true)). let a = ap (λ (b : Bool). times z (if b then y ∷ place_into x ys else x ∷ y ∷ ys)) t.1 in omega arith)
-    (λ (t : ¬ (Before y x) × (test y x ≡ false)). ap (λ (b : Bool). times z (if b then y ∷ place_into x ys else x ∷ y ∷ ys)) t.1) (before_or y x)
+    (λ (t : Before y x × (test y x ≡ true)). let a = ap (λ (b : Bool). times z (if b then y ∷ place_custody x ys else x ∷ y ∷ ys)) t.1 in omega arith)
+    (λ (t : ¬ (Before y x) × (test y x ≡ false)). ap (λ (b : Bool). times z (if b then y ∷ place_custody x ys else x ∷ y ∷ ys)) t.1) (before_or y x)
 
 pub by_place_times : (z : Custody) (xs : List Custody) → times z (by_place xs) ≡ times z xs
 by_place_times z [] = refl
@@ -139,7 +139,7 @@ of_stints n b total core from (t ∷ ts) near h = by_test (ask_bucket t.ask) b
     (λ _. of_tried n b total core from (ask_to t.ask) t.outcome ts near h.0 (λ c f l. of_stints n b total c f ts l h.1)) (λ _. of_stints n b total core from ts near h.1)
 
 module _ (rules : Rules) (xs : List Parcel) (j : JournalView) (cores n : ℕ) (logs : ℕ → List Custody) (lawful : IsLawfulSoFar rules xs j) (owners : (b : ℕ) → b < n → slice_index j.start b < cores) (to : AreTo cores (tries j.entries))
-    (entries : (c : ℕ) → c < cores → AreEntries c n (logs c)) (split : (c b : ℕ) → c < cores → b < n → history b (map stretch_of (logs c)) ≡ spans_at c (stints j xs b)) where
+    (entries : (c : ℕ) → c < cores → AreEntries c n (logs c)) (split : (c b : ℕ) → c < cores → b < n → ended_spans b (map stretch_of (logs c)) ≡ spans_at c (stints j xs b)) where
   pub in_order : (cs : List Custody) → IsOrdered cs → IsPermutation (all_logs logs cores) cs → cs ≡ custody_upto (stints j xs) n
   in_order cs o p = logs_in_order logs (stints j xs) (λ b. count_in b xs) cores n cs entries (λ b l. of_stints cores b (count_in b xs) (slice_index j.start b) 0 (tries j.entries) (owners b l) to)
       (λ b l. lawful_stints rules xs j b lawful) split o (λ x. permuted_times x (all_logs logs cores) cs p)

@@ -5,7 +5,7 @@ use Rattle.indirection.proofs.Tests.{by_test}
 use Rattle.bucket_table.specs.declared.custody.Custody.{Custody}
 use Rattle.indirection.specs.Stints.{Stint, Joins}
 use Rattle.handover_core.specs.Spans.{Span, spans_at}
-use Rattle.worker_loop.specs.Custodies.{history, stretch_of, AreEntries}
+use Rattle.worker_loop.specs.Custodies.{ended_spans, stretch_of, AreEntries}
 use Rattle.rsspp_run.specs.Custody.{custody_of, custody_upto, all_logs, Before, AllAre, IsOrdered, IsRising, same_span, same_custody, times, times_in, AreOfCores}
 use Rattle.rsspp_run.proofs.CustodyOrders.{one_order}
 
@@ -21,13 +21,13 @@ abbrev span_of : Custody → Span
 span_of x = (x.from, x.to)
 
 -- one log
-log_here : (x : Custody) (c n : ℕ) (l : List Custody) → c ≡ x.core → AreEntries c n l → times x l ≡ times_in (span_of x) (history x.bucket (map stretch_of l))
+log_here : (x : Custody) (c n : ℕ) (l : List Custody) → c ≡ x.core → AreEntries c n l → times x l ≡ times_in (span_of x) (ended_spans x.bucket (map stretch_of l))
 log_here x c n [] e h = refl
 log_here x c n (y ∷ l) e h =
     let ih = log_here x c n l e h.2 in
     let a : times x (y ∷ l) ≡ (if (if eqb y.bucket x.bucket then same_span (span_of x) (span_of y) else false) then 1 else 0) + times x l
     = ap {B = ℕ} (λ (t : Bool). (if (if t then (if eqb y.bucket x.bucket then same_span (span_of x) (span_of y) else false) else false) then 1 else 0) + times x l) (eq-eqb y.core x.core (h.0 ∙ e)) in
-    a ∙ by_test y.bucket x.bucket (λ t. (if (if t then same_span (span_of x) (span_of y) else false) then 1 else 0) + times x l ≡ times_in (span_of x) ((if t then span_of y ∷ [] else []) ++ history x.bucket (map stretch_of l)))
+    a ∙ by_test y.bucket x.bucket (λ t. (if (if t then same_span (span_of x) (span_of y) else false) then 1 else 0) + times x l ≡ times_in (span_of x) ((if t then span_of y ∷ [] else []) ++ ended_spans x.bucket (map stretch_of l)))
     (λ _. ap {B = ℕ} (λ (m : ℕ). (if same_span (span_of x) (span_of y) then 1 else 0) + m) ih) (λ _. omega arith)
 
 log_away : (x : Custody) (c n : ℕ) (l : List Custody) → c ≢ x.core → AreEntries c n l → times x l ≡ 0
@@ -36,9 +36,9 @@ log_away x c n (y ∷ l) ne h =
     let ih = log_away x c n l ne h.2 in
     let a = ap {B = ℕ} (λ (t : Bool). (if (if t then (if eqb y.bucket x.bucket then same_span (span_of x) (span_of y) else false) else false) then 1 else 0) + times x l) (ne_eqb y.core x.core (λ q. ne (sym h.0 ∙ q))) in omega arith
 
-history_past : (b c n : ℕ) (l : List Custody) → AreEntries c n l → n ≤ b → history b (map stretch_of l) ≡ []
+history_past : (b c n : ℕ) (l : List Custody) → AreEntries c n l → n ≤ b → ended_spans b (map stretch_of l) ≡ []
 history_past b c n [] h far = refl
-history_past b c n (y ∷ l) h far = ap (λ (t : Bool). (if t then span_of y ∷ [] else []) ++ history b (map stretch_of l)) (ne_eqb y.bucket b (λ q. let z = h.1 in omega arith)) ∙ history_past b c n l h.2 far
+history_past b c n (y ∷ l) h far = ap (λ (t : Bool). (if t then span_of y ∷ [] else []) ++ ended_spans b (map stretch_of l)) (ne_eqb y.bucket b (λ q. let z = h.1 in omega arith)) ∙ history_past b c n l h.2 far
 
 -- the stints of one bucket
 bucket_here : (x : Custody) (b : ℕ) (ss : List Stint) → b ≡ x.bucket → times x (map (custody_of b) ss) ≡ times_in (span_of x) (spans_at x.core ss)
@@ -70,13 +70,13 @@ module _ (logs : ℕ → List Custody) (st : ℕ → List Stint) (cores n : ℕ)
   logs_past x zero below far = refl
   logs_past x (suc m) below far = let a = times_append x (all_logs logs m) (logs m) in let b = logs_past x m (omega arith) (omega arith) in let c = log_away x m n (logs m) (λ q. omega arith) (entries m (omega arith)) in omega arith
 
-  logs_at : (x : Custody) (m : ℕ) → m ≤ cores → x.core < m → times x (all_logs logs m) ≡ times_in (span_of x) (history x.bucket (map stretch_of (logs x.core)))
+  logs_at : (x : Custody) (m : ℕ) → m ≤ cores → x.core < m → times x (all_logs logs m) ≡ times_in (span_of x) (ended_spans x.bucket (map stretch_of (logs x.core)))
   logs_at x zero below near = absurd (omega arith)
   logs_at x (suc m) below near =
       let a = times_append x (all_logs logs m) (logs m) in
       ⊎_elim
       (λ (q : m ≡ x.core). let b = logs_past x m (omega arith) (omega arith) in let c = log_here x m n (logs m) q (entries m (omega arith)) in
-      let d : times_in (span_of x) (history x.bucket (map stretch_of (logs m))) ≡ times_in (span_of x) (history x.bucket (map stretch_of (logs x.core))) = ap (λ (i : ℕ). times_in (span_of x) (history x.bucket (map stretch_of (logs i)))) q in omega arith)
+      let d : times_in (span_of x) (ended_spans x.bucket (map stretch_of (logs m))) ≡ times_in (span_of x) (ended_spans x.bucket (map stretch_of (logs x.core))) = ap (λ (i : ℕ). times_in (span_of x) (ended_spans x.bucket (map stretch_of (logs i)))) q in omega arith)
       (λ (ne : m ≡ x.core → ⊥). let le : x.core < m = below_other x.core m near ne in let b = logs_at x m (omega arith) le in let c = log_away x m n (logs m) ne (entries m (omega arith)) in omega arith) (cases_eq m x.core) where
         below_other : (i k : ℕ) → i < suc k → (k ≡ i → ⊥) → i < k
         below_other i k l ne = ⊎_elim (λ (z : i < k). z) (λ (z : k ≤ i). absurd (ne (omega arith))) (cases_lt i k)
@@ -96,7 +96,7 @@ module _ (logs : ℕ → List Custody) (st : ℕ → List Stint) (cores n : ℕ)
         below_other : (i k : ℕ) → i < suc k → (k ≡ i → ⊥) → i < k
         below_other i k l ne = ⊎_elim (λ (z : i < k). z) (λ (z : k ≤ i). absurd (ne (omega arith))) (cases_lt i k)
 
-  module _ (in_cores : (b : ℕ) → b < n → AreOfCores cores (st b)) (split : (c b : ℕ) → c < cores → b < n → history b (map stretch_of (logs c)) ≡ spans_at c (st b)) where
+  module _ (in_cores : (b : ℕ) → b < n → AreOfCores cores (st b)) (split : (c b : ℕ) → c < cores → b < n → ended_spans b (map stretch_of (logs c)) ≡ spans_at c (st b)) where
     pub same_times : (x : Custody) → times x (all_logs logs cores) ≡ times x (custody_upto st n)
     same_times x = ⊎_elim
         (λ (c : x.core < cores). ⊎_elim
@@ -141,7 +141,7 @@ upto_rises st total (suc n) h = rise_append n (custody_upto st n) (map (custody_
 
 -- the law: the logs in order are the custody of the journal
 pub logs_in_order : (logs : ℕ → List Custody) (st : ℕ → List Stint) (total : ℕ → ℕ) (cores n : ℕ) (cs : List Custody) → ((c : ℕ) → c < cores → AreEntries c n (logs c)) → ((b : ℕ) → b < n → AreOfCores cores (st b))
-    → ((b : ℕ) → b < n → Joins 0 (st b) (total b)) → ((c b : ℕ) → c < cores → b < n → history b (map stretch_of (logs c)) ≡ spans_at c (st b))
+    → ((b : ℕ) → b < n → Joins 0 (st b) (total b)) → ((c b : ℕ) → c < cores → b < n → ended_spans b (map stretch_of (logs c)) ≡ spans_at c (st b))
     → IsOrdered cs → ((x : Custody) → times x cs ≡ times x (all_logs logs cores)) → cs ≡ custody_upto st n
 logs_in_order logs st total cores n cs entries in_cores joins split ordered same =
     one_order cs (custody_upto st n) ordered (upto_rises st total n joins) (λ x. same x ∙ same_times logs st cores n entries in_cores split x)

@@ -14,20 +14,20 @@ use Rattle.handover_core.specs.State.{MachineView, blank_bucket, bucket_at, sent
 use Rattle.handover_core.specs.Machine.{enabled, end_sent, step}
 use Rattle.core_queue.specs.declared.item.Seen.TheVariants.{Packet}
 use Rattle.core_queue.specs.Cells.{plain}
-use Rattle.handover_words.specs.declared.eye.ShelfEye.{ShelfEye}
+use Rattle.handover_words.specs.declared.history.ShelfHistory.{ShelfHistory}
 use Rattle.handover_words.specs.Stock.{Stock, stock}
 use Rattle.load_meter.specs.LocalMeter.{MeterState}
 use Rattle.packet_pool.specs.LocalPool.{PoolState}
-use Rattle.worker_loop.specs.Job.{Job}
+use Rattle.worker_loop.specs.Workload.{Workload}
 use Rattle.handover_core.specs.Machine.{posts_by}
-use Rattle.dispatch_loop.specs.Face.{Face}
+use Rattle.dispatch_loop.specs.DispatcherState.{DispatcherState}
 use Rattle.dispatch_loop.specs.Asks.{owner_at, start_at, count_at}
 use Rattle.dispatch_loop.specs.Does.{GetsCell, SendsCell, Looks, mark_of}
 use Rattle.rsspp_run.specs.Serial.{RunState, Deed, deed, tried}
-use Rattle.rsspp_run.specs.Floor.{Floor, lane_at, AreWorkersAt, IsDispatched, eye_of, now_of}
-use Rattle.rsspp_run.specs.Desk.{IsDeskOf, outs_of, IsSending}
+use Rattle.rsspp_run.specs.LocalRun.{LocalRunView, lane_at, AreWorkersAt, IsDispatched, history_of, now_of}
+use Rattle.rsspp_run.specs.DispatcherOf.{IsDispatcherOf, outs_of, IsSending}
 use Rattle.rsspp_run.proofs.Lanes.{sent_nothing}
-use Rattle.rsspp_run.proofs.Desks.{desk_look, desk_place, desk_move, move_left}
+use Rattle.rsspp_run.proofs.Dispatchers.{dispatcher_look, dispatcher_place, dispatcher_move, move_left}
 use Rattle.rsspp_run.proofs.DispatcherEvents.{stepped, event_stays}
 use Rattle.rsspp_run.proofs.DispatcherTurns.{both_true, cell_sent, same_noted}
 
@@ -36,25 +36,25 @@ stock_or None = stock [] []
 stock_or (Some s) = s
 
 -- what is left where nothing was sent: lanes and pool, words and tables, and what was claimed and noted
-pub record IsLooking {T : Type 0} (b word : ℕ) (f f' : Floor T) : Type 0 where
+pub record IsLooking {T : Type 0} (b word : ℕ) (f f' : LocalRunView T) : Type 0 where
   pub key : f'.key ≡ f.key
   pub workers : f'.workers ≡ f.workers
   pub meter : f'.meter ≡ f.meter
-  pub looks : Looks b word f.shelf.eye (Some (stock f.shelf.words f.shelf.homes)) f'.shelf.eye (Some (stock f'.shelf.words f'.shelf.homes))
+  pub looks : Looks b word f.shelf.history (Some (stock f.shelf.words f.shelf.homes)) f'.shelf.history (Some (stock f'.shelf.words f'.shelf.homes))
 
-module _ {S : Type 0} (x : Job S) (r : RunState) (d : Face) (f : Floor (TableOf S)) (are : AreWorkersAt x r f) (desk : IsDeskOf r.machine d) where
+module _ {S : Type 0} (x : Workload S) (r : RunState) (d : DispatcherState) (f : LocalRunView (TableOf S)) (are : AreWorkersAt x r f) (dispatcher : IsDispatcherOf r.machine d) where
   -- the word of a bucket is the shelf's
   word_is : (c b : ℕ) → c < length r.machine.cores → b < length r.machine.buckets → (bucket_at r.machine b).word ≡ slice_index f.shelf.words b
   word_is c b near lt = let u = are.each c near in u.shows.words b lt ∙ ap (λ (o : Option (Stock (TableOf S))). slice_index (stock_or o).words b) (sym u.shows.stock_is)
 
-  -- an event that sends nothing, over a floor on which a bucket was looked at, or nothing was done
-  pub looking : (e : Event) (f' : Floor (TableOf S)) → posts_by r.machine e ≡ [] → (step r.machine e).free ≡ r.machine.free → f'.key ≡ f.key → f'.workers ≡ f.workers → f'.lanes ≡ f.lanes → f'.pool ≡ f.pool → f'.meter ≡ f.meter
-      → f'.shelf.words ≡ f.shelf.words → f'.shelf.homes ≡ f.shelf.homes → f'.shelf.eye.held ≡ f.shelf.eye.held → f'.shelf.eye.key ≡ f.shelf.eye.key → f'.shelf.eye.buckets ≡ f.shelf.eye.buckets → IsDispatched r.machine e f f'
+  -- an event that sends nothing, over a local run in which a bucket was looked at, or nothing was done
+  pub looking : (e : Event) (f' : LocalRunView (TableOf S)) → posts_by r.machine e ≡ [] → (step r.machine e).free ≡ r.machine.free → f'.key ≡ f.key → f'.workers ≡ f.workers → f'.lanes ≡ f.lanes → f'.pool ≡ f.pool → f'.meter ≡ f.meter
+      → f'.shelf.words ≡ f.shelf.words → f'.shelf.homes ≡ f.shelf.homes → f'.shelf.history.held ≡ f.shelf.history.held → f'.shelf.history.key ≡ f.shelf.history.key → f'.shelf.history.buckets ≡ f.shelf.history.buckets → IsDispatched r.machine e f f'
   looking e f' posts free key workers lanes pool meter words homes held k bs = record {
     key = key;
     workers = workers;
     wide = ap length lanes;
-    lanes = λ c lt. subst (λ ps. Rattle.rsspp_run.specs.Floor.IsLaneSent (Rattle.handover_core.specs.Dispatch.stream c ps) (lane_at f c) (lane_at f' c)) (sym posts)
+    lanes = λ c lt. subst (λ ps. Rattle.rsspp_run.specs.LocalRun.IsLaneSent (Rattle.handover_core.specs.Dispatch.stream c ps) (lane_at f c) (lane_at f' c)) (sym posts)
         (sent_nothing (lane_at f c) (lane_at f' c) (λ i. get_or (lanes i) c (Rattle.core_queue.specs.Local.new_lane (key i) 0 0)));
     claims = record { held = held; key = k; buckets = bs };
     words = words;
@@ -80,7 +80,7 @@ module _ {S : Type 0} (x : Job S) (r : RunState) (d : Face) (f : Floor (TableOf 
     pub may_move : to ≢ owner_at d b → start_at d b < count_at d b → (bucket_at r.machine b).word ≡ 2 * start_at d b + 2 → 0 < r.machine.free → 0 < r.machine.moves → end_sent r.machine ≡ false → enabled (step r.machine (Look b)) (Move b to) ≡ true
     may_move ne fresh word free moves ending =
         let wide = length-set r.machine.buckets b (record (bucket_at r.machine b) { seen = (bucket_at r.machine b).word }) in
-        let owner = desk.owners b near in let start = desk.starts b near in let count = desk.counts b near in
+        let owner = dispatcher.owners b near in let start = dispatcher.starts b near in let count = dispatcher.counts b near in
         both_true _ _ (lt-ltb _ _ (omega arith)) (both_true _ _ (lt-ltb _ _ core)
         (both_true _ _ (ap (λ (s : BucketState). not (eqb to s.owner)) here ∙ ap not (ne_eqb to (bucket_at r.machine b).owner (λ e. ne (e ∙ owner))))
         (both_true _ _ (ap (λ (s : BucketState). ltb s.start (sent_of r.machine b)) here ∙ lt-ltb _ _ (omega arith))
@@ -88,44 +88,44 @@ module _ {S : Type 0} (x : Job S) (r : RunState) (d : Face) (f : Floor (TableOf 
         (both_true _ _ (lt-ltb 0 r.machine.free free) (both_true _ _ (lt-ltb 0 r.machine.moves moves) (ap not ending)))))))
 
     pub may_place : to ≢ owner_at d b → count_at d b ≡ 0 → end_sent r.machine ≡ false → enabled r.machine (Place b to) ≡ true
-    may_place ne none ending = let count = desk.counts b near in let owner = desk.owners b near in
+    may_place ne none ending = let count = dispatcher.counts b near in let owner = dispatcher.owners b near in
         both_true _ _ (lt-ltb _ _ near) (both_true _ _ (lt-ltb _ _ core) (both_true _ _ (ap not (ne_eqb to (bucket_at r.machine b).owner (λ e. ne (e ∙ owner))))
         (both_true _ _ (eq-eqb (sent_of r.machine b) 0 (omega arith)) (ap not ending))))
 
     -- Placed is a Place
-    pub placed : (f' : Floor (TableOf S)) → to ≢ owner_at d b → count_at d b ≡ 0 → end_sent r.machine ≡ false → f' ≡ f → AreWorkersAt x (stepped r (Place b to)) f' × IsDeskOf (step r.machine (Place b to)) (record d { owners = set d.owners b to })
+    pub placed : (f' : LocalRunView (TableOf S)) → to ≢ owner_at d b → count_at d b ≡ 0 → end_sent r.machine ≡ false → f' ≡ f → AreWorkersAt x (stepped r (Place b to)) f' × IsDispatcherOf (step r.machine (Place b to)) (record d { owners = set d.owners b to })
     placed f' ne none ending same = (
       subst (AreWorkersAt x (stepped r (Place b to))) (sym same) (event_stays x r (Place b to) f f are (λ w. w) (may_place ne none ending) (looking (Place b to) f refl refl refl refl refl refl refl refl refl refl refl refl)),
-      desk_place r.machine d desk b to near,
+      dispatcher_place r.machine d dispatcher b to near,
     )
 
     -- InPassage with a word is a Look
-    pub passed : (f' : Floor (TableOf S)) (word : ℕ) → IsLooking b word f f' → f'.lanes ≡ f.lanes → f'.pool ≡ f.pool → AreWorkersAt x (stepped r (Look b)) f' × IsDeskOf (step r.machine (Look b)) d × ((bucket_at r.machine b).word ≡ word)
+    pub passed : (f' : LocalRunView (TableOf S)) (word : ℕ) → IsLooking b word f f' → f'.lanes ≡ f.lanes → f'.pool ≡ f.pool → AreWorkersAt x (stepped r (Look b)) f' × IsDispatcherOf (step r.machine (Look b)) d × ((bucket_at r.machine b).word ≡ word)
     passed f' word is lanes pool =
         let same : stock f'.shelf.words f'.shelf.homes ≡ stock f.shelf.words f.shelf.homes = ap stock_or is.looks.1.1 in
         let did = looking (Look b) f' refl refl is.key is.workers lanes pool is.meter (ap (λ (k : Stock (TableOf S)). k.words) same) (ap (λ (k : Stock (TableOf S)). k.homes) same)
-        (ap (λ (e : ShelfEye). e.held) is.looks.0) (ap (λ (e : ShelfEye). e.key) is.looks.0) (ap (λ (e : ShelfEye). e.buckets) is.looks.0) in
-        (event_stays x r (Look b) f f' are (λ w. w) (lt-ltb _ _ near) did, desk_look r.machine d desk b near, word_is to b core near ∙ is.looks.1.0)
+        (ap (λ (e : ShelfHistory). e.held) is.looks.0) (ap (λ (e : ShelfHistory). e.key) is.looks.0) (ap (λ (e : ShelfHistory). e.buckets) is.looks.0) in
+        (event_stays x r (Look b) f f' are (λ w. w) (lt-ltb _ _ near) did, dispatcher_look r.machine d dispatcher b near, word_is to b core near ∙ is.looks.1.0)
 
     -- Moved is a Look and a Move
-    pub moved : (d' : Face) (f' : Floor (TableOf S)) → to ≢ owner_at d b → start_at d b < count_at d b → end_sent r.machine ≡ false → IsLooking b (2 * start_at d b + 2) f (record f { shelf = f'.shelf }) → SendsCell d.spare (owner_at d b) (mark_of d b) (outs_of f) (outs_of f')
+    pub moved : (d' : DispatcherState) (f' : LocalRunView (TableOf S)) → to ≢ owner_at d b → start_at d b < count_at d b → end_sent r.machine ≡ false → IsLooking b (2 * start_at d b + 2) f (record f { shelf = f'.shelf }) → SendsCell d.spare (owner_at d b) (mark_of d b) (outs_of f) (outs_of f')
         → owner_at d b < length r.machine.cores → f'.key ≡ f.key → f'.workers ≡ f.workers → f'.meter ≡ f.meter
-        → AreWorkersAt x (stepped (stepped r (Look b)) (Move b to)) f' × IsDeskOf (step (step r.machine (Look b)) (Move b to)) (record d { owners = set d.owners b to; starts = set d.starts b (count_at d b) }) × (0 < r.machine.free)
+        → AreWorkersAt x (stepped (stepped r (Look b)) (Move b to)) f' × IsDispatcherOf (step (step r.machine (Look b)) (Move b to)) (record d { owners = set d.owners b to; starts = set d.starts b (count_at d b) }) × (0 < r.machine.free)
     moved d' f' ne fresh ending is sends owned key workers meter =
-        let f1 : Floor (TableOf S) = record f { shelf = f'.shelf } in
+        let f1 : LocalRunView (TableOf S) = record f { shelf = f'.shelf } in
         let p = passed f1 (2 * start_at d b + 2) is refl refl in
-        let cell = subst (λ (t : Bool). GetsCell t (outs_of f).pool (outs_of f).pool_now (outs_of f').pool (outs_of f').pool_now) desk.spare sends.cell in
+        let cell = subst (λ (t : Bool). GetsCell t (outs_of f).pool (outs_of f).pool_now (outs_of f').pool (outs_of f').pool_now) dispatcher.spare sends.cell in
         let some = cell.1 in let free = are.free in let many : 0 < r.machine.free = omega arith in
-        let moves = move_left r.machine d desk b near fresh in
+        let moves = move_left r.machine d dispatcher b near fresh in
         let r1 = stepped r (Look b) in
         let n = step r.machine (Look b) in
         let wide : length n.buckets ≡ length r.machine.buckets = length-set r.machine.buckets b (record (bucket_at r.machine b) { seen = (bucket_at r.machine b).word }) in
         let near' : b < length n.buckets = omega arith in
         let posts : posts_by n (Move b to) ≡ record { core = owner_at d b; item = plain (Packet (mark_of d b)) } ∷ [] =
-        (λ i. record { core = (here i).owner; item = Of Mark b (sent_of r.machine b) } ∷ []) ∙ (λ i. record { core = desk.owners b near i; item = Of Mark b (desk.counts b near i) } ∷ []) in
+        (λ i. record { core = (here i).owner; item = Of Mark b (sent_of r.machine b) } ∷ []) ∙ (λ i. record { core = dispatcher.owners b near i; item = Of Mark b (dispatcher.counts b near i) } ∷ []) in
         let sending : IsSending f1 f' = record { key = key; workers = workers; shelf = refl; meter = meter } in
         let did = cell_sent x r1 d d' f1 f' p.0 p.1 sending (Move b to) (owner_at d b) (Packet (mark_of d b)) posts owned refl sends.pushes cell.2 in
-        (event_stays x r1 (Move b to) f1 f' p.0 (λ w. w) (may_move ne fresh p.2 many moves ending) did, desk_move n d p.1 b to (count_at d b) near' (sym (desk.counts b near)) fresh, many)
+        (event_stays x r1 (Move b to) f1 f' p.0 (λ w. w) (may_move ne fresh p.2 many moves ending) did, dispatcher_move n d p.1 b to (count_at d b) near' (sym (dispatcher.counts b near)) fresh, many)
 
 -- what is tried, by its outcome
 

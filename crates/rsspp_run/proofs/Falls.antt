@@ -19,15 +19,15 @@ use Rattle.handover_core.proofs.Bound.{falls, steps-first}
 use Rattle.handover_core.proofs.Enabled.{is_enabled}
 use Rattle.handover_core.proofs.Found.{find-some, each-upto, Each_of}
 use Rattle.handover_core.proofs.Steps.{keeps-sound}
-use Rattle.worker_loop.specs.Job.{Job}
-use Rattle.dispatch_loop.specs.Face.{Face}
+use Rattle.worker_loop.specs.Workload.{Workload}
+use Rattle.dispatch_loop.specs.DispatcherState.{DispatcherState}
 use Rattle.dispatch_loop.specs.Asks.{due_now}
 use Rattle.rsspp_run.specs.Serial.{Setting, RunState, begins, Deed, after_all, deed_due, tried, sent, ended}
-use Rattle.rsspp_run.specs.Floor.{Floor}
-use Rattle.rsspp_run.specs.Desk.{IsReady}
+use Rattle.rsspp_run.specs.LocalRun.{LocalRunView}
+use Rattle.rsspp_run.specs.DispatcherOf.{IsReady}
 use Rattle.rsspp_run.specs.At.{IsAt}
 use Rattle.rsspp_run.proofs.Asked.{start_le}
-use Rattle.rsspp_run.proofs.Desks.{move_left}
+use Rattle.rsspp_run.proofs.Dispatchers.{move_left}
 use Rattle.rsspp_run.proofs.DispatcherTries.{may_move, may_place}
 use Rattle.rsspp_run.proofs.DispatcherTurns.{both_true}
 use Rattle.rsspp_run.proofs.Idle.{below_of, no_both, map_id}
@@ -64,7 +64,7 @@ ne_of a b e q = no_both (eqb a b) (eq-eqb a b q) e
 Falls : MachineView → Deed → Type 0
 Falls m d = Fallen m d.events
 
-module _ {S : Type 0} (x : Job S) (j : Setting) (r : RunState) (d : Face) (f : Floor (TableOf S)) (at : IsAt x r d f) (packets : length r.machine.packets ≡ length j.parcels) where
+module _ {S : Type 0} (x : Workload S) (j : Setting) (r : RunState) (d : DispatcherState) (f : LocalRunView (TableOf S)) (at : IsAt x r d f) (packets : length r.machine.packets ≡ length j.parcels) where
   m : MachineView
   m = r.machine
 
@@ -73,18 +73,18 @@ module _ {S : Type 0} (x : Job S) (j : Setting) (r : RunState) (d : Face) (f : F
     unfolding Falls
     tried_falls =
         let b = ask_bucket a in let to = ask_to a in let s = at.workers.sound in
-        let owner = at.desk.owners b near in let start = at.desk.starts b near in let count = at.desk.counts b near in
+        let owner = at.dispatcher.owners b near in let start = at.dispatcher.starts b near in let count = at.dispatcher.counts b near in
         let look = one_falls r.machine (Look b) s (lt-ltb _ _ near) in
         if_cases (Falls r.machine) (eqb (bucket_at r.machine b).owner to) _ _ (λ _. none_falls r.machine)
         (λ ne. if_cases (Falls r.machine) (eqb (sent_of r.machine b) 0) _ _
-        (λ z. one_falls r.machine (Place b to) s (may_place x r d f at.workers at.desk b to near core (λ e. ne_of _ _ ne (owner ∙ sym e)) (sym count ∙ eq_of _ _ z) ending))
+        (λ z. one_falls r.machine (Place b to) s (may_place x r d f at.workers at.dispatcher b to near core (λ e. ne_of _ _ ne (owner ∙ sym e)) (sym count ∙ eq_of _ _ z) ending))
         (λ nz. if_cases (Falls r.machine) (eqb (sent_of r.machine b) (bucket_at r.machine b).start) _ _ (λ _. none_falls r.machine)
         (λ ns. if_cases (Falls r.machine) (eqb (bucket_at r.machine b).word (2 * (bucket_at r.machine b).start + 2)) _ _
         (λ w. if_cases (Falls r.machine) (ltb 0 r.machine.free) _ _
         (λ fr.
         let le = start_le r.machine b s near in let apart = ne_of _ _ ns in let fresh : get_or d.starts b 0 < get_or d.counts b 0 = omega arith in
         two_fall r.machine (Look b) (Move b to) s (lt-ltb _ _ near)
-        (may_move x r d f at.workers at.desk b to near core (λ e. ne_of _ _ ne (owner ∙ sym e)) fresh (eq_of _ _ w ∙ ap (λ n. 2 * n + 2) start) (below_of 0 r.machine.free fr) (move_left r.machine d at.desk b near fresh) ending))
+        (may_move x r d f at.workers at.dispatcher b to near core (λ e. ne_of _ _ ne (owner ∙ sym e)) fresh (eq_of _ _ w ∙ ap (λ n. 2 * n + 2) start) (below_of 0 r.machine.free fr) (move_left r.machine d at.dispatcher b near fresh) ending))
         (λ _. look))
         (λ _. look))))
 
@@ -115,9 +115,9 @@ module _ {S : Type 0} (x : Job S) (j : Setting) (r : RunState) (d : Face) (f : F
       (slice_get_cases j.parcels r.machine.sent).1
 
 -- a turn of a dispatcher that is tied to its packets, whatever is due
-module _ {S : Type 0} (x : Job S) (j : Setting) (r : RunState) (d : Face) (f : Floor (TableOf S)) (at : IsAt x r d f) (packets : length r.machine.packets ≡ length j.parcels) (ready : IsReady r.machine d) where
+module _ {S : Type 0} (x : Workload S) (j : Setting) (r : RunState) (d : DispatcherState) (f : LocalRunView (TableOf S)) (at : IsAt x r d f) (packets : length r.machine.packets ≡ length j.parcels) (ready : IsReady r.machine d) where
   pub due_falls : Fallen r.machine (deed_due j r (due_now d)).events
-  due_falls = deed_falls x j r d f at packets (due_now d) (λ a e. let k = ready.asks a e in (k.0, k.1, at.desk.ending ∙ ap (λ n. ltb 0 n) k.2))
+  due_falls = deed_falls x j r d f at packets (due_now d) (λ a e. let k = ready.asks a e in (k.0, k.1, at.dispatcher.ending ∙ ap (λ n. ltb 0 n) k.2))
 
 -- the steps that a run has at first
 pub first_falls : (j : Setting) → steps_left (begins j).machine ≡ 2 * (length j.parcels + length j.parcels + j.rules.cores) + 2 * (length j.parcels + length j.rules.start)

@@ -9,26 +9,26 @@ use Rattle.dispatch_loop.specs.declared.dispatcher_end.DispatcherEnd.{Dispatcher
 use Rattle.dispatch_loop.specs.declared.dispatcher_turn.DispatcherTurn.{DispatcherTurn}
 use Rattle.dispatch_loop.specs.declared.dispatcher_turn.DispatcherTurn.TheVariants.{Sent, Round, Ordered, EndSent, NoCell, LaneFull, Finished}
 use Rattle.dispatch_loop.specs.Asks.{due_now}
-use Rattle.dispatch_loop.specs.Face.{Face}
+use Rattle.dispatch_loop.specs.DispatcherState.{DispatcherState}
 use Rattle.dispatch_loop.specs.Past.{Past, IsFed}
 use Rattle.dispatch_loop.specs.Rules as turns
 use Rattle.dispatch_loop.specs.Rules.{Acts, Passes, Fetches, ReadsNext, HasRead, IsNext, SendsEnd}
-use Rattle.dispatch_loop.specs.Scene.{Scene}
+use Rattle.dispatch_loop.specs.DispatcherSnapshot.{DispatcherSnapshot}
 use Rattle.dispatch_loop.specs.Terms.{cores_of}
 use Rattle.dispatch_loop.specs.Tied.{TiedIn}
 use Rattle.dispatch_loop.proofs.Dues.{round_due}
-use Rattle.rsspp_run.specs.Desk.{IsDeskOf}
+use Rattle.rsspp_run.specs.DispatcherOf.{IsDispatcherOf}
 use Rattle.rsspp_run.proofs.DispatcherThen.{acts_short}
 use Rattle.rsspp_run.proofs.Idle.{below_of}
 
 -- memory that is refused stays refused
-module _ {T : Type 0} (s t : Scene T) (still : t.desk.short ≡ false) where
-  passed_open : (turn : DispatcherTurn) (m : Scene T) → Passes s m → Acts turn m t → s.desk.short ≡ false
-  passed_open turn m (inl k) a = sym (ap (λ (z : Scene T). z.desk.short) k.1) ∙ (sym (acts_short turn m t a) ∙ still)
-  passed_open turn m (inr k) a = (round_due s.desk k.due).0
+module _ {T : Type 0} (s t : DispatcherSnapshot T) (still : t.dispatcher.short ≡ false) where
+  passed_open : (turn : DispatcherTurn) (m : DispatcherSnapshot T) → Passes s m → Acts turn m t → s.dispatcher.short ≡ false
+  passed_open turn m (inl k) a = sym (ap (λ (z : DispatcherSnapshot T). z.dispatcher.short) k.1) ∙ (sym (acts_short turn m t a) ∙ still)
+  passed_open turn m (inr k) a = (round_due s.dispatcher k.due).0
 
-  pub open_before : (turn : DispatcherTurn) → turns.IsTurn s turn t → s.desk.short ≡ false
-  open_before Round h = (round_due s.desk h.due).0
+  pub open_before : (turn : DispatcherTurn) → turns.IsTurn s turn t → s.dispatcher.short ≡ false
+  open_before Round h = (round_due s.dispatcher h.due).0
   open_before Sent h = passed_open Sent h.0 h.1 h.2
   open_before Ordered h = passed_open Ordered h.0 h.1 h.2
   open_before EndSent h = passed_open EndSent h.0 h.1 h.2
@@ -42,30 +42,30 @@ none_held limit p held None r left h ne = absurd (ne refl)
 none_held limit p held (Some e) r left h ne = h.held_is
 
 -- where the machine is finished each core got its End
-pub ends_all : (m : MachineView) (d : Face) → IsDeskOf m d → IsFinished m → 1 ≤ cores_of d.terms → d.ends ≤ cores_of d.terms → d.ends ≡ cores_of d.terms
+pub ends_all : (m : MachineView) (d : DispatcherState) → IsDispatcherOf m d → IsFinished m → 1 ≤ cores_of d.terms → d.ends ≤ cores_of d.terms → d.ends ≡ cores_of d.terms
 ends_all m d at over some few =
     let n = at.cores in let c = cores_of d.terms - 1 in
     let lt : c < length m.cores = omega arith in
     let got = below_of c d.ends (sym (at.ends c lt) ∙ over.ends c lt) in omega arith
 
-module _ {T : Type 0} (packets : Option (List PacketInfo)) (p : Past) (s t : Scene T) (tied : TiedIn packets p s) (all : s.desk.ends ≡ cores_of s.desk.terms) where
+module _ {T : Type 0} (packets : Option (List PacketInfo)) (p : Past) (s t : DispatcherSnapshot T) (tied : TiedIn packets p s) (all : s.dispatcher.ends ≡ cores_of s.dispatcher.terms) where
   Finish : DispatcherTurn → Type 0
   Finish turn = (e : DispatcherEnd) × (turn ≡ Finished e)
 
-  ended : s.desk.end ≢ None
+  ended : s.dispatcher.end ≢ None
   ended = tied.ends_last (let c = tied.sound.table.some_core in omega arith)
 
-  packet_due : due_now s.desk ≡ PacketDue
+  packet_due : due_now s.dispatcher ≡ PacketDue
   packet_due = tied.none_due ended
 
-  next_finishes : (turn : DispatcherTurn) (m : Scene T) → m.desk ≡ s.desk → IsNext turn m t → Finish turn
+  next_finishes : (turn : DispatcherTurn) (m : DispatcherSnapshot T) → m.dispatcher ≡ s.dispatcher → IsNext turn m t → Finish turn
   unfolding Finish
-  next_finishes turn m same (inl k) = let z : None ≡ Some k.0 = sym (none_held s.desk.terms.packets p s.desk.held s.desk.end s.reader s.left tied.fed ended) ∙ (sym (ap (λ (f : Face). f.held) same) ∙ k.1.held) in absurd (cc)
+  next_finishes turn m same (inl k) = let z : None ≡ Some k.0 = sym (none_held s.dispatcher.terms.packets p s.dispatcher.held s.dispatcher.end s.reader s.left tied.fed ended) ∙ (sym (ap (λ (f : DispatcherState). f.held) same) ∙ k.1.held) in absurd (cc)
   next_finishes turn m same (inr k) = by turn k.sends where
-    few : m.desk.ends < cores_of m.desk.terms → ⊥
-    few lt = let e = subst (λ (f : Face). f.ends ≡ cores_of f.terms) (sym same) all in omega arith
+    few : m.dispatcher.ends < cores_of m.dispatcher.terms → ⊥
+    few lt = let e = subst (λ (f : DispatcherState). f.ends ≡ cores_of f.terms) (sym same) all in omega arith
 
-    by : (turn : DispatcherTurn) → SendsEnd turn m.desk t.desk m.outs.lanes m.outs.lanes_now t.outs.lanes t.outs.lanes_now → (e : DispatcherEnd) × (turn ≡ Finished e)
+    by : (turn : DispatcherTurn) → SendsEnd turn m.dispatcher t.dispatcher m.outs.lanes m.outs.lanes_now t.outs.lanes t.outs.lanes_now → (e : DispatcherEnd) × (turn ≡ Finished e)
     by EndSent h = absurd (few h.few)
     by (LaneFull c) h = absurd (few h.few)
     by (Finished e) h = (e, refl)
@@ -74,13 +74,13 @@ module _ {T : Type 0} (packets : Option (List PacketInfo)) (p : Past) (s t : Sce
     by Round h = absurd h
     by Ordered h = absurd h
 
-  acts_finish : (turn : DispatcherTurn) (m : Scene T) → m ≡ s → Acts turn m t → Finish turn
-  acts_finish turn m same (inl k) = let z : TryDue k.ask ≡ PacketDue = sym k.due ∙ (ap (λ (z : Scene T). due_now z.desk) same ∙ packet_due) in absurd (cc)
+  acts_finish : (turn : DispatcherTurn) (m : DispatcherSnapshot T) → m ≡ s → Acts turn m t → Finish turn
+  acts_finish turn m same (inl k) = let z : TryDue k.ask ≡ PacketDue = sym k.due ∙ (ap (λ (z : DispatcherSnapshot T). due_now z.dispatcher) same ∙ packet_due) in absurd (cc)
   acts_finish turn m same (inr (n, fetch, next)) = next_finishes turn n (⊎_elim
-      (λ (k : ReadsNext m.desk n.desk m.faults n.faults). absurd (ended (sym (ap (λ (z : Scene T). z.desk.end) same) ∙ k.goes_on)))
-      (λ (k : HasRead m.desk n.desk m.reader n.reader m.left n.left m.faults n.faults). k.desk ∙ ap (λ (z : Scene T). z.desk) same) fetch.reads) next
+      (λ (k : ReadsNext m.dispatcher n.dispatcher m.faults n.faults). absurd (ended (sym (ap (λ (z : DispatcherSnapshot T). z.dispatcher.end) same) ∙ k.goes_on)))
+      (λ (k : HasRead m.dispatcher n.dispatcher m.reader n.reader m.left n.left m.faults n.faults). k.dispatcher ∙ ap (λ (z : DispatcherSnapshot T). z.dispatcher) same) fetch.reads) next
 
-  passes_finish : (turn : DispatcherTurn) (m : Scene T) → Passes s m → Acts turn m t → Finish turn
+  passes_finish : (turn : DispatcherTurn) (m : DispatcherSnapshot T) → Passes s m → Acts turn m t → Finish turn
   passes_finish turn m (inl k) a = acts_finish turn m k.1 a
   passes_finish turn m (inr k) a = let z : RoundDue ≡ PacketDue = sym k.due ∙ packet_due in absurd (cc)
 
@@ -96,9 +96,9 @@ module _ {T : Type 0} (packets : Option (List PacketInfo)) (p : Past) (s t : Sce
 
 -- a turn that finishes tells how the stream ended
 module _ {T : Type 0} where
-  pub finished_tells : (s t : Scene T) (e : DispatcherEnd) → turns.IsTurn s (Finished e) t → (t.desk.end ≡ Some e) × (t.desk.ends ≡ cores_of t.desk.terms)
+  pub finished_tells : (s t : DispatcherSnapshot T) (e : DispatcherEnd) → turns.IsTurn s (Finished e) t → (t.dispatcher.end ≡ Some e) × (t.dispatcher.ends ≡ cores_of t.dispatcher.terms)
   finished_tells s t e h = by h.2 where
-    by : Acts (Finished e) h.0 t → (t.desk.end ≡ Some e) × (t.desk.ends ≡ cores_of t.desk.terms)
+    by : Acts (Finished e) h.0 t → (t.dispatcher.end ≡ Some e) × (t.dispatcher.ends ≡ cores_of t.dispatcher.terms)
     by (inl k) = absurd k.tries
     by (inr (n, fetch, inl k)) = absurd k.1.sends
-    by (inr (n, fetch, inr k)) = (ap (λ (f : Face). f.end) k.sends.desk ∙ k.sends.ended, subst (λ (f : Face). f.ends ≡ cores_of f.terms) (sym k.sends.desk) k.sends.all)
+    by (inr (n, fetch, inr k)) = (ap (λ (f : DispatcherState). f.end) k.sends.dispatcher ∙ k.sends.ended, subst (λ (f : DispatcherState). f.ends ≡ cores_of f.terms) (sym k.sends.dispatcher) k.sends.all)

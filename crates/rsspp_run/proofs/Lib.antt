@@ -1,7 +1,7 @@
 pub mod Asked
 pub mod AtEnd
 pub mod Crews
-pub mod Desks
+pub mod Dispatchers
 pub mod DispatcherEvents
 pub mod DispatcherRules
 pub mod DispatcherThen
@@ -39,8 +39,9 @@ pub mod Budget
 pub mod Parties
 pub mod Overs
 pub mod BesideWorkers
-pub mod DesksBeside
+pub mod DispatchersBeside
 pub mod Finishes
+pub mod SweepFacts
 pub mod Sweeping
 pub mod Told
 pub mod Begins

@@ -9,21 +9,21 @@ use Rattle.indirection.specs.Tries.{Ask}
 use Rattle.indirection.specs.Story.{Parcel}
 use Rattle.indirection.specs.Due.{TryDue, PacketDue}
 use Rattle.handover_core.specs.State.{MachineView}
-use Rattle.core_queue.specs.declared.eye.LaneEye.{LaneEye}
-use Rattle.handover_words.specs.declared.eye.ShelfEye.{ShelfEye}
-use Rattle.load_meter.specs.declared.eye.LoadEye.{LoadEye}
+use Rattle.core_queue.specs.declared.history.LaneHistory.{LaneHistory}
+use Rattle.handover_words.specs.declared.history.ShelfHistory.{ShelfHistory}
+use Rattle.load_meter.specs.declared.history.LoadHistory.{LoadHistory}
 use Rattle.dispatch_loop.specs.Asks.{due_now}
 use Rattle.dispatch_loop.specs.Does.{bucket_for}
-use Rattle.dispatch_loop.specs.Face.{Face}
+use Rattle.dispatch_loop.specs.DispatcherState.{DispatcherState}
 use Rattle.dispatch_loop.specs.Past.{Past, parcel_of, parcels, held_list}
 use Rattle.dispatch_loop.specs.Tied.{Tied}
 use Rattle.dispatch_loop.specs.Terms.{buckets_of}
 use Rattle.dispatch_loop.proofs.Acted.{of-run}
 use Rattle.dispatch_loop.proofs.Carrying.{bucket-below}
-use Rattle.rsspp_run.specs.Desk.{IsDeskOf, IsReady, GoesOn}
-use Rattle.rsspp_run.specs.Goes.{bucket_in, Continues}
+use Rattle.rsspp_run.specs.DispatcherOf.{IsDispatcherOf, IsReady, HoldsNext}
+use Rattle.rsspp_run.specs.Goes.{bucket_in, HasPacketsLeft}
 
-module _ (m : MachineView) (packets : Option (List PacketInfo)) (p : Past) (d : Face) (lanes : List LaneEye) (v : ShelfEye) (l : LoadEye) (reader : Reading) (left : Option (List ℕ)) (tied : Tied packets p d lanes v l reader left) (desk : IsDeskOf m d) where
+module _ (m : MachineView) (packets : Option (List PacketInfo)) (p : Past) (d : DispatcherState) (lanes : List LaneHistory) (v : ShelfHistory) (l : LoadHistory) (reader : Reading) (left : Option (List ℕ)) (tied : Tied packets p d lanes v l reader left) (dispatcher : IsDispatcherOf m d) where
   -- while anything is to be tried no End was sent
   none_sent : (a : Ask) → due_now d ≡ TryDue a → d.ends ≡ 0
   none_sent a due = ⊎_elim
@@ -32,8 +32,8 @@ module _ (m : MachineView) (packets : Option (List PacketInfo)) (p : Past) (d : 
 
   pub ready_of : IsReady m d
   ready_of = record {
-    asks = λ a due. let o = of-run packets p d lanes v l reader left tied a due in let b = o.bucket in let t = o.to in let wide = desk.buckets in let cores = desk.cores in (omega arith, omega arith, none_sent a due);
-    buckets = λ q. let b = bucket-below d.terms.key (buckets_of d.terms) q (let some = tied.sound.table.some_bucket in omega arith) in let wide = desk.buckets in omega arith;
+    asks = λ a due. let o = of-run packets p d lanes v l reader left tied a due in let b = o.bucket in let t = o.to in let wide = dispatcher.buckets in let cores = dispatcher.cores in (omega arith, omega arith, none_sent a due);
+    buckets = λ q. let b = bucket-below d.terms.key (buckets_of d.terms) q (let some = tied.sound.table.some_bucket in omega arith) in let wide = dispatcher.buckets in omega arith;
   }
 
 -- the element behind a front
@@ -55,8 +55,8 @@ get_map f [] i x e = absurd (cc)
 get_map f (y ∷ xs) zero x e = let q : y ≡ x = cc in ap (λ z. Some (f z)) q
 get_map f (y ∷ xs) (suc i) x e = get_map f xs i x e
 
-pub goes_on : (m : MachineView) (ps : List Parcel) (all sent : List PacketInfo) (e : Face) → m.packets ≡ map bucket_in ps → ps ≡ parcels e.terms all → m.sent ≡ length sent → Continues all sent e
-    → ((p : PacketInfo) → e.held ≡ Some p → e.ends ≡ 0) → GoesOn m ps e
+pub goes_on : (m : MachineView) (ps : List Parcel) (all sent : List PacketInfo) (e : DispatcherState) → m.packets ≡ map bucket_in ps → ps ≡ parcels e.terms all → m.sent ≡ length sent → HasPacketsLeft all sent e
+    → ((p : PacketInfo) → e.held ≡ Some p → e.ends ≡ 0) → HoldsNext m ps e
 goes_on m ps all sent e packets are count c ends =
     record {
       next = λ p held.
@@ -74,7 +74,7 @@ goes_on m ps all sent e packets are count c ends =
     }
 
 -- before a packet was sent, the run went on with it
-pub before_sent : (all sent : List PacketInfo) (q : PacketInfo) (e e' : Face) → e.held ≡ Some q → e'.held ≡ None → e'.end ≡ e.end → Continues all (sent ++ q ∷ []) e' → Continues all sent e
+pub before_sent : (all sent : List PacketInfo) (q : PacketInfo) (e e' : DispatcherState) → e.held ≡ Some q → e'.held ≡ None → e'.end ≡ e.end → HasPacketsLeft all (sent ++ q ∷ []) e' → HasPacketsLeft all sent e
 before_sent all sent q e e' held none end c = record {
   rest = c.rest;
   is = c.is ∙ (ap (λ h. (sent ++ q ∷ []) ++ (held_list h ++ c.rest)) none ∙ (append_assoc sent (q ∷ []) c.rest ∙ ap (λ h. sent ++ (held_list h ++ c.rest)) (sym held)));
@@ -82,7 +82,7 @@ before_sent all sent q e e' held none end c = record {
 }
 
 -- before a record was read, the run went on with what it gave
-pub before_read : (all sent : List PacketInfo) (d e : Face) → d.held ≡ None → d.end ≡ None → Continues all sent e → Continues all sent d
+pub before_read : (all sent : List PacketInfo) (d e : DispatcherState) → d.held ≡ None → d.end ≡ None → HasPacketsLeft all sent e → HasPacketsLeft all sent d
 before_read all sent d e none going c = record {
   rest = held_list e.held ++ c.rest;
   is = c.is ∙ ap (λ h. sent ++ (held_list h ++ (held_list e.held ++ c.rest))) (sym none);
@@ -90,5 +90,5 @@ before_read all sent d e none going c = record {
 }
 
 -- what isn't read of it may change
-pub same_rest : (all sent : List PacketInfo) (e e' : Face) → e'.held ≡ e.held → e'.end ≡ e.end → Continues all sent e' → Continues all sent e
+pub same_rest : (all sent : List PacketInfo) (e e' : DispatcherState) → e'.held ≡ e.held → e'.end ≡ e.end → HasPacketsLeft all sent e' → HasPacketsLeft all sent e
 same_rest all sent e e' held end c = record { rest = c.rest; is = c.is ∙ ap (λ h. sent ++ (held_list h ++ c.rest)) held; whole = λ over. c.whole (λ k. over (sym end ∙ k)) }

@@ -10,45 +10,45 @@ use Rattle.indirection.specs.Story.{Parcel, RoundHead, Step, tries_of, parcels_o
 use Rattle.indirection.specs.Due.{Rules, RoundDue, position}
 use Rattle.indirection.specs.Lawful.{cost_in, recent}
 use Rattle.handover_core.specs.State.{core_at}
-use Rattle.load_meter.specs.declared.eye.LoadEye.{LoadEye}
-use Rattle.worker_loop.specs.Job.{Job}
+use Rattle.load_meter.specs.declared.history.LoadHistory.{LoadHistory}
+use Rattle.worker_loop.specs.Workload.{Workload}
 use Rattle.worker_loop.specs.Counts.{HaveCosts}
 use Rattle.worker_loop.specs.Schedule.{worked_cost}
 use Rattle.worker_loop.proofs.Tallied.{cost_is}
 use Rattle.flow_work.specs.declared.work.TheConstants.{MOST_COST}
 use Rattle.dispatch_loop.specs.Costs.{cost_at}
 use Rattle.dispatch_loop.specs.Terms.{cores_of, buckets_of, rules_of}
-use Rattle.dispatch_loop.specs.Face.{Face}
+use Rattle.dispatch_loop.specs.DispatcherState.{DispatcherState}
 use Rattle.dispatch_loop.specs.Asks.{due_now}
 use Rattle.dispatch_loop.specs.Past.{parcels, story}
 use Rattle.dispatch_loop.specs.Does.{AreReadings, bases_of, loads_of}
 use Rattle.dispatch_loop.specs.Steps.{round_by}
 use Rattle.dispatch_loop.specs.Tied.{IsDealt, IsLawfulStill}
 use Rattle.dispatch_loop.proofs.Dues.{round_due}
-use Rattle.dispatch_loop.proofs.Lawfuls.{by-elements, base-get}
+use Rattle.dispatch_loop.proofs.LawfulParts.{by-elements, base-get}
 use Rattle.dispatch_loop.proofs.Weighed.{length-bases}
 use Rattle.rsspp_run.specs.Serial.{Setting, RunState, loads_now, round_now}
-use Rattle.rsspp_run.specs.Floor.{Floor, lane_at, scene_at, AreWorkersAt}
+use Rattle.rsspp_run.specs.LocalRun.{LocalRunView, lane_at, worker_snapshot_at, AreWorkersAt}
 use Rattle.rsspp_run.proofs.WorkedFew.{cost_whole}
 
 -- the readings are what the meter tells
-pub readings_at : (loads : List ℕ) (e : LoadEye) (from : ℕ) (ns : List ℕ) (c : ℕ) → AreReadings (Some loads) e from ns → c < length ns → slice_index loads (from + c) ≡ get_or ns c 0
+pub readings_at : (loads : List ℕ) (e : LoadHistory) (from : ℕ) (ns : List ℕ) (c : ℕ) → AreReadings (Some loads) e from ns → c < length ns → slice_index loads (from + c) ≡ get_or ns c 0
 readings_at loads e from [] c a lt = absurd (omega arith)
 readings_at loads e from (n ∷ ns) zero a lt = ap (λ (k : ℕ). get_or loads k 0) (let q : from + 0 ≡ from = omega arith in q) ∙ a.0.1
 readings_at loads e from (n ∷ ns) (suc c) a lt = ap (λ (k : ℕ). get_or loads k 0) (let q : from + suc c ≡ from + 1 + c = omega arith in q) ∙ readings_at loads e (from + 1) ns c a.1 (omega arith)
 
-module _ {S : Type 0} (x : Job S) (r : RunState) (f : Floor (TableOf S)) (are : AreWorkersAt x r f) (cores : length r.machine.cores ≤ 2 ^ 32)
-    (costs : ℕ → ℕ → ℕ) (small : (b place : ℕ) → costs b place ≤ MOST_COST) (have : (c : ℕ) → c < length r.machine.cores → HaveCosts costs x.cost (lane_at f c).eye.taken) where
+module _ {S : Type 0} (x : Workload S) (r : RunState) (f : LocalRunView (TableOf S)) (are : AreWorkersAt x r f) (cores : length r.machine.cores ≤ 2 ^ 32)
+    (costs : ℕ → ℕ → ℕ) (small : (b place : ℕ) → costs b place ≤ MOST_COST) (have : (c : ℕ) → c < length r.machine.cores → HaveCosts costs x.cost (lane_at f c).history.taken) where
   -- the meter tells what the packets cost that each core has worked
   pub load_is : (c : ℕ) → c < length r.machine.cores → slice_index f.meter.loads c ≡ worked_cost costs (core_at r.machine c)
   load_is c near =
       let u = are.each c near in
-      ap (λ (o : Option (List ℕ)). get_or (loads_or o) c 0) u.told.is ∙ (u.told.number ∙ (cost_is x r.machine c (scene_at f c) costs u.tied u.shows (have c near) ∙ cost_whole costs small r.machine c are.sound cores)) where
+      ap (λ (o : Option (List ℕ)). get_or (loads_or o) c 0) u.told.is ∙ (u.told.number ∙ (cost_is x r.machine c (worker_snapshot_at f c) costs u.tied u.shows (have c near) ∙ cost_whole costs small r.machine c are.sound cores)) where
         loads_or : Option (List ℕ) → List ℕ
         loads_or Rattle.std.specs.Prelude.None = []
         loads_or (Some ls) = ls
 
-module _ (j : Setting) (r : RunState) (d : Face) (ps : List PacketInfo) (meter : LoadEye) (rules : j.rules ≡ rules_of d.terms) (told : r.steps ≡ story d ps) (dealt : IsDealt d (story d ps)) (wide : length d.loads ≡ buckets_of d.terms) (l : IsLawfulStill d ps meter) (due : due_now d ≡ RoundDue) where
+module _ (j : Setting) (r : RunState) (d : DispatcherState) (ps : List PacketInfo) (meter : LoadHistory) (rules : j.rules ≡ rules_of d.terms) (told : r.steps ≡ story d ps) (dealt : IsDealt d (story d ps)) (wide : length d.loads ≡ buckets_of d.terms) (l : IsLawfulStill d ps meter) (due : due_now d ≡ RoundDue) where
   terms : Rules
   terms = rules_of d.terms
 

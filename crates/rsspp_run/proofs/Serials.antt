@@ -6,16 +6,16 @@ use Rattle.pcap_reader.specs.declared.fault.ReadError.TheVariants as reading
 use Rattle.pcap_reader.specs.declared.fault.ReadError.{ReadError}
 use Rattle.pcap_reader.specs.Stream.{MayBlame}
 use Rattle.pcap_reader.specs.Reading.{Reading}
-use Rattle.worker_loop.specs.Job.{Job}
+use Rattle.worker_loop.specs.Workload.{Workload}
 use Rattle.dispatch_loop.specs.declared.dispatcher_end.DispatcherEnd.{DispatcherEnd}
 use Rattle.dispatch_loop.specs.declared.dispatcher_end.DispatcherEnd.TheVariants as end
-use Rattle.dispatch_loop.specs.Face.{Face}
+use Rattle.dispatch_loop.specs.DispatcherState.{DispatcherState}
 use Rattle.dispatch_loop.specs.Past.{past, IsFed, IsOver}
 use Rattle.dispatch_loop.specs.Rules.{BlamesRead}
 use Rattle.dispatch_loop.specs.Terms.{Terms}
 use Rattle.rsspp_run.specs.declared.run_end.RunFault.{RunFault}
 use Rattle.rsspp_run.specs.declared.run_end.RunFault.TheVariants as faults
-use Rattle.rsspp_run.specs.Floor.{Floor}
+use Rattle.rsspp_run.specs.LocalRun.{LocalRunView}
 use Rattle.rsspp_run.specs.OneTable.{AreAll}
 use Rattle.rsspp_run.specs.Refused.{fault_of_error, refusal, Blames}
 use Rattle.rsspp_run.specs.Sweeps.{HasEnded}
@@ -27,7 +27,7 @@ ended_so (end.Refused e) ok = absurd (cc)
 ended_so (end.TooMany n) ok = absurd (cc)
 
 -- the stream of the packets that were sent has ended
-pub over_then : {S : Type 0} (packets : Option (List PacketInfo)) (x : Job S) (t : Terms) (pool number : ℕ) (bytes : Option (List ℕ)) (how : DispatcherEnd) (d : Face) (f : Floor (TableOf S)) (reader : Reading) (left : Option (List ℕ))
+pub over_then : {S : Type 0} (packets : Option (List PacketInfo)) (x : Workload S) (t : Terms) (pool number : ℕ) (bytes : Option (List ℕ)) (how : DispatcherEnd) (d : DispatcherState) (f : LocalRunView (TableOf S)) (reader : Reading) (left : Option (List ℕ))
     → (h : HasEnded packets x t pool number bytes how d f reader left) → IsOver t.packets (past bytes h.sent) None how left
 over_then packets x t pool number bytes how d f reader left h =
     let fed = subst (λ (z : Option DispatcherEnd). IsFed d.terms.packets (past bytes h.sent) d.held z reader left) h.end_is h.tied.tied.fed in

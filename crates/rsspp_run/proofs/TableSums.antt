@@ -7,9 +7,10 @@ use Rattle.std.proofs.Math.Nat.{mod-lt}
 use Rattle.bucket_table.specs.Table.{TableOf}
 use Rattle.packet_fields.specs.declared.key.FlowKey.{FlowKey}
 use Rattle.packet_fields.specs.declared.packet.PacketInfo.{PacketInfo}
+use Rattle.toeplitz.specs.Bucket.{bucket_hash}
 use Rattle.toeplitz.specs.Packet.{packet_hash}
 use Rattle.indirection.specs.Story.{Parcel, count_in}
-use Rattle.worker_loop.specs.Job.{job, run_of}
+use Rattle.worker_loop.specs.Workload.{workload}
 use Rattle.worker_loop.specs.Keys.{HasBucket}
 use Rattle.worker_loop.proofs.Keys.{keys_in}
 use Rattle.dispatch_loop.specs.Past.{parcel_of, parcels}
@@ -70,5 +71,5 @@ module _ {S : Type 0} (opening : S) (after : S → PacketInfo → S) (packets : 
       tables_among 0 (parcels t all) tables (λ b table is. (are.each b table is).0.done_is ∙ ap (λ (n : ℕ). count_in n (parcels t all)) (let z : b ≡ 0 + b = omega arith in z))
       ∙ (ap (λ (n : ℕ). among 0 n (parcels t all)) are.count ∙ run_among t all some)
 
-  pub keys_own : (b : ℕ) (table : TableOf S) → slice_get tables b ≡ Some table → All (λ (e : FlowKey × S). HasBucket (run_of t.key (buckets_of t)) b e.0) table.flows
-  keys_own b table is = let h = are.each b table is in keys_in (job opening after (λ _. 0) packets) (run_of t.key (buckets_of t)) b table h.0.stands h.1
+  pub keys_own : (b : ℕ) (table : TableOf S) → slice_get tables b ≡ Some table → All (λ (e : FlowKey × S). HasBucket (bucket_hash t.key (buckets_of t)) b e.0) table.flows
+  keys_own b table is = let h = are.each b table is in keys_in (workload opening after (λ _. 0) packets) (bucket_hash t.key (buckets_of t)) b table h.0.stands h.1

@@ -8,7 +8,7 @@ use Rattle.handover_core.specs.declared.item.Item.TheVariants.{Of, End}
 use Rattle.handover_core.specs.declared.post.Post.{Post}
 use Rattle.handover_core.specs.Dispatch.{stream}
 use Rattle.handover_core.specs.State.{MachineView, core_at}
-use Rattle.handover_core.specs.Sound.{IsSound, is_mark}
+use Rattle.handover_core.specs.Sound.{IsSound, is_mark_item}
 use Rattle.worker_loop.specs.Counts.{more}
 use Rattle.worker_loop.specs.Schedule.{is_packet, worked_of, item_cost, worked_cost}
 use Rattle.flow_work.specs.declared.work.TheConstants.{MOST_COST}
@@ -19,30 +19,30 @@ packets_in (x ∷ xs) = (if is_packet x then 1 else 0) + packets_in xs
 
 marks_in : List Post → ℕ
 marks_in [] = 0
-marks_in (p ∷ ps) = (if is_mark p.item then 1 else 0) + marks_in ps
+marks_in (p ∷ ps) = (if is_mark_item p.item then 1 else 0) + marks_in ps
 
 counted_packets : (xs : List Item) → count_by is_packet xs ≡ packets_in xs
 unfolding packets_in
 counted_packets [] = refl
 counted_packets (x ∷ xs) = let ih = counted_packets xs in let s = sum_by-cons (λ (y : Item). if is_packet y then 1 else 0) x xs in omega arith
 
-counted_marks : (ps : List Post) → count_by (λ (p : Post). is_mark p.item) ps ≡ marks_in ps
+counted_marks : (ps : List Post) → count_by (λ (p : Post). is_mark_item p.item) ps ≡ marks_in ps
 unfolding marks_in
 counted_marks [] = refl
-counted_marks (p ∷ ps) = let ih = counted_marks ps in let s = sum_by-cons (λ (q : Post). if is_mark q.item then 1 else 0) p ps in omega arith
+counted_marks (p ∷ ps) = let ih = counted_marks ps in let s = sum_by-cons (λ (q : Post). if is_mark_item q.item then 1 else 0) p ps in omega arith
 
 front_packets : (xs ys : List Item) → packets_in xs ≤ packets_in (xs ++ ys)
 unfolding packets_in
 front_packets [] ys = omega arith
 front_packets (x ∷ xs) ys = let ih = front_packets xs ys in omega arith
 
-one_kind : (x : Item) → (if is_packet x then 1 else 0) + (if is_mark x then 1 else 0) ≤ 1
+one_kind : (x : Item) → (if is_packet x then 1 else 0) + (if is_mark_item x then 1 else 0) ≤ 1
 one_kind (Of First b place) = omega arith
 one_kind (Of Next b place) = omega arith
 one_kind (Of Mark b place) = omega arith
 one_kind End = omega arith
 
-some_kind : (x : Item) → (if is_mark x then 1 else 0) ≤ 1
+some_kind : (x : Item) → (if is_mark_item x then 1 else 0) ≤ 1
 some_kind x = let o = one_kind x in omega arith
 
 sent_packets : (c : ℕ) (ps : List Post) → packets_in (stream c ps) + marks_in ps ≤ length ps

@@ -8,7 +8,7 @@ use Rattle.indirection.specs.Lawful.{IsLawful}
 use Rattle.indirection.specs.Stints.{stints}
 use Rattle.indirection.specs.Story.{count_in}
 use Rattle.handover_words.specs.Stands.{IsTableOf}
-use Rattle.worker_loop.specs.Face.{WorkerView}
+use Rattle.worker_loop.specs.WorkerState.{WorkerView}
 use Rattle.dispatch_loop.specs.Past.{parcels}
 use Rattle.dispatch_loop.specs.Terms.{Terms, buckets_of, rules_of}
 use Rattle.rsspp_run.specs.Custody.{custody_upto}
@@ -17,10 +17,10 @@ use Rattle.rsspp_run.specs.Sweeps.{setting_of}
 
 -- the custodies that a worker ended, and how many packets it worked
 abbrev pub log_in : {T : Type 0} → WorkerView T → List Custody
-log_in w = w.face.log
+log_in w = w.state.log
 
 abbrev pub worked_in : {T : Type 0} → WorkerView T → ℕ
-worked_in w = w.face.worked
+worked_in w = w.state.worked
 
 -- journal, custody and counts are those of the run under the number by its definition; the journal is lawful, and the custody is that of the journal: each bucket's stints with their cores, by bucket; there were no more packets than the limit
 pub record IsSerialRun (t : Terms) (pool number : ℕ) (all : List PacketInfo) (journal : JournalState) (custody : List Custody) (worked : List ℕ) : Type 0 where

@@ -2,7 +2,7 @@
 use Rattle.std.specs.Prelude.{◌≡◌, ◌≢◌, ℕ, List, [], ◌++◌, map, None}
 use Rattle.packet_fields.specs.declared.packet.PacketInfo.{PacketInfo}
 use Rattle.indirection.specs.Story.{Parcel}
-use Rattle.dispatch_loop.specs.Face.{Face}
+use Rattle.dispatch_loop.specs.DispatcherState.{DispatcherState}
 use Rattle.dispatch_loop.specs.Past.{parcels, held_list}
 use Rattle.dispatch_loop.specs.Terms.{Terms, rules_of}
 use Rattle.rsspp_run.specs.Serial.{Setting, RunState}
@@ -11,7 +11,7 @@ abbrev pub bucket_in : Parcel → ℕ
 bucket_in q = q.bucket
 
 -- the packets of the run are those that were sent, the one that is held, and others, if the stream goes on
-pub record Continues (all sent : List PacketInfo) (e : Face) : Type 0 where
+pub record HasPacketsLeft (all sent : List PacketInfo) (e : DispatcherState) : Type 0 where
   pub rest : List PacketInfo
   pub is : all ≡ sent ++ (held_list e.held ++ rest)
   pub whole : e.end ≢ None → rest ≡ []

@@ -4,16 +4,16 @@ ghost use Rattle.handover_words.specs.LocalShelf.{Closes};
 ghost use Rattle.handover_words.specs.Stands.{IsTableOf};
 ghost use Rattle.packet_fields.specs.declared.packet.PacketInfo.{PacketInfo};
 ghost use Rattle.pcap_reader.specs.Reading.{Reading};
-ghost use Rattle.worker_loop.specs.Job.{job};
-ghost use Rattle.dispatch_loop.specs.Face.{face_by};
+ghost use Rattle.worker_loop.specs.Workload.{workload};
+ghost use Rattle.dispatch_loop.specs.DispatcherState.{dispatcher_state_by};
 ghost use Rattle.dispatch_loop.specs.declared.dispatcher_end.DispatcherEnd.TheVariants.{AtEnd};
 ghost use Rattle.dispatch_loop.specs.Terms.{buckets_of};
 ghost use Rattle.rsspp_run.specs.Custody.{IsOrdered};
 ghost use Rattle.rsspp_run.specs.Ends.{log_in, worked_in, IsSerialRun, AreTablesOf};
-ghost use Rattle.rsspp_run.specs.Sweeps.{Course, Ends};
+ghost use Rattle.rsspp_run.specs.Sweeps.{RunInputs, EndsSo};
 
 use crate::RunEnd;
-use crate::crew::Crew;
+use crate::local_run::LocalRun;
 use balancer::Balancer;
 use bucket_table::{BucketTable, Custody};
 use dispatch_loop::Dispatcher;
@@ -26,7 +26,7 @@ use worker_loop::Worker;
 
 /// Whether memory was refused to the log of a worker.
 pub fn is_worker_short<W: FlowWork>(workers: &[Worker<W>]) -> bool
-    ensures { (result ≡ false) ↔ All (λ w. w.face.short ≡ false) workers.now }
+    ensures { (result ≡ false) ↔ All (λ w. w.state.short ≡ false) workers.now }
 {
     for worker in workers {
         if worker.short() {
@@ -101,7 +101,7 @@ pub(crate) fn tables_of<W: FlowWork, N: RunName>(
     buckets: u16,
 ) -> Result<Vec<BucketTable<W>>, NoMemory>
     requires home { (b : ℕ) → b < length shelf.homes → slice_index_or shelf.homes b None ≢ None }
-    requires buckets { shelf.eye.buckets ≡ buckets }
+    requires buckets { shelf.history.buckets ≡ buckets }
     ensures { IfOk result (λ tables. Closes (IsTableOf W.opening W.after N.packets) shelf [] tables.items) }
 {
     let Ok(mut tables) = Vec::with_capacity(alloc, buckets as usize) else {
@@ -115,15 +115,15 @@ pub(crate) fn tables_of<W: FlowWork, N: RunName>(
 pub(crate) fn finish<W: FlowWork, N: RunName>(
     alloc: Global,
     dispatcher: Dispatcher<W, Balancer>,
-    crew: Crew<W, N>,
+    local: LocalRun<W, N>,
     buckets: u16,
 ) -> Result<RunEnd<W>, NoMemory>
-    requires ended { (run : Course) × (reader : Reading) × (left : Option (List ℕ)) × Ends N.packets (job W.opening W.after W.cost_of N.packets) run AtEnd (face_by W.cost_of dispatcher) crew reader left × (buckets ≡ buckets_of run.terms) }
-    ensures run { IfOk result (λ end. (run : Course) (reader : Reading) (left : Option (List ℕ)) → (ended : Ends N.packets (job W.opening W.after W.cost_of N.packets) run AtEnd (face_by W.cost_of dispatcher) crew reader left)
+    requires ended { (run : RunInputs) × (reader : Reading) × (left : Option (List ℕ)) × EndsSo N.packets (workload W.opening W.after W.cost_of N.packets) run AtEnd (dispatcher_state_by W.cost_of dispatcher) local reader left × (buckets ≡ buckets_of run.terms) }
+    ensures run { IfOk result (λ end. (run : RunInputs) (reader : Reading) (left : Option (List ℕ)) → (ended : EndsSo N.packets (workload W.opening W.after W.cost_of N.packets) run AtEnd (dispatcher_state_by W.cost_of dispatcher) local reader left)
         → IsSerialRun run.terms run.pool run.number ended.sent end.journal end.custody.items end.worked.items × AreTablesOf W.opening W.after N.packets run.terms ended.sent end.tables.items) }
     ensures alone { IfOk result (λ end. (end.notes.items ≡ []) × (end.shelf ≡ None)) }
 {
-    let Crew { workers, shelf, .. } = crew;
+    let LocalRun { workers, shelf, .. } = local;
     if dispatcher.short() {
         return Err(NoMemory);
     }

@@ -8,7 +8,7 @@ ghost use Rattle.indirection.specs.Stints.{stints};
 ghost use Rattle.indirection.specs.Due.{Rules};
 ghost use Rattle.indirection.specs.Lawful.{IsLawfulSoFar};
 ghost use Rattle.handover_core.specs.Spans.{Span, spans_at};
-ghost use Rattle.worker_loop.specs.Custodies.{AreEntries, stretch_of, history};
+ghost use Rattle.worker_loop.specs.Custodies.{AreEntries, stretch_of, ended_spans};
 ghost use Rattle.rsspp_run.specs.Serial.{by_place};
 ghost use Rattle.rsspp_run.specs.Custody.{Meet, times_in, all_spans, stint_span, IsOrdered, AreTo, all_logs, custody_upto};
 
@@ -17,11 +17,11 @@ ghost use Rattle.rsspp_run.specs.Custody.{Meet, times_in, all_spans, stint_span,
 pub fn logs_are_the_custody()
     ensures sorted { (rules : Rules) (xs : List Parcel) (j : JournalView) (cores n : ℕ) (logs : ℕ → List Custody) (cs : List Custody)
         → IsLawfulSoFar rules xs j → ((b : ℕ) → b < n → slice_index j.start b < cores) → AreTo cores (tries j.entries) → ((c : ℕ) → c < cores → AreEntries c n (logs c))
-        → ((c b : ℕ) → c < cores → b < n → history b (map stretch_of (logs c)) ≡ spans_at c (stints j xs b))
+        → ((c b : ℕ) → c < cores → b < n → ended_spans b (map stretch_of (logs c)) ≡ spans_at c (stints j xs b))
         → IsOrdered cs → IsPermutation (all_logs logs cores) cs → cs ≡ custody_upto (stints j xs) n }
     ensures placed { (rules : Rules) (xs : List Parcel) (j : JournalView) (cores n : ℕ) (logs : ℕ → List Custody)
         → IsLawfulSoFar rules xs j → ((b : ℕ) → b < n → slice_index j.start b < cores) → AreTo cores (tries j.entries) → ((c : ℕ) → c < cores → AreEntries c n (logs c))
-        → ((c b : ℕ) → c < cores → b < n → history b (map stretch_of (logs c)) ≡ spans_at c (stints j xs b))
+        → ((c b : ℕ) → c < cores → b < n → ended_spans b (map stretch_of (logs c)) ≡ spans_at c (stints j xs b))
         → by_place (all_logs logs cores) ≡ custody_upto (stints j xs) n }
 {}
 

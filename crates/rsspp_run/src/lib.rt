@@ -1,13 +1,17 @@
 //! Runs of a dispatcher and its workers: on one thread, as sweeps over all parties.
+//!
+//! Read `specs/Serial.antt`, the run by its definition, and `specs/Ends.antt`, then `run_end.rt`
+//! and `serial.rt`. `specs/LocalRun.antt`, `specs/DispatcherOf.antt`, `specs/At.antt` and `laws.rt`
+//! tie code to it. `specs/OneTable.antt` and `fold.rt` stand by themselves.
 #![tactic(auto)]
 
 mod closing;
-mod crew;
 mod custody_laws;
 mod end_laws;
 mod fold;
 mod laws;
 mod limits;
+mod local_run;
 mod run_end;
 mod serial;
 mod start;

@@ -10,7 +10,7 @@ ghost use Rattle.rsspp_run.specs.OneTable.{AreAll};
 ghost use Rattle.rsspp_run.specs.Refused.{Refuses, HasRunCause};
 
 use crate::closing::finish;
-use crate::crew::Crew;
+use crate::local_run::LocalRun;
 use crate::run_end::refused;
 use crate::{RunEnd, RunFault};
 use bucket_table::FlowHashKey;
@@ -49,9 +49,9 @@ pub fn run_serial<N: RunName, S: Source, W: FlowWork>(
 {
     let policy = policy_of(alloc, options)?;
     let mut dispatcher = Dispatcher::new(alloc, options, policy)?;
-    let mut crew = Crew::<W, N>::new(alloc, options, hashing)?;
+    let mut local = LocalRun::<W, N>::new(alloc, options, hashing)?;
     let mut reader = Reader::start(alloc, source)?;
-    let end = crew.run_sweeps(&mut dispatcher, number, work, &mut reader, source);
+    let end = local.run_sweeps(&mut dispatcher, number, work, &mut reader, source);
     refused(end)?;
-    Ok(finish(alloc, dispatcher, crew, options.start.buckets())?)
+    Ok(finish(alloc, dispatcher, local, options.start.buckets())?)
 }

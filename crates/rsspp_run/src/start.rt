@@ -3,7 +3,7 @@ ghost use Rattle.std.specs.Prelude.{◌≡◌, ◌<◌, ◌+◌, length, IfOk};
 ghost use Rattle.dispatch_loop.specs.Accepted.{IsAccepted};
 ghost use Rattle.rsspp_run.specs.Opening.{AreNewWorkers, AreNewLanes, IsNew};
 
-use crate::crew::Crew;
+use crate::local_run::LocalRun;
 use bucket_table::{BucketTable, FlowHashKey};
 use core_queue::LocalLane;
 use dispatch_loop::Options;
@@ -54,16 +54,16 @@ fn new_lanes<N: RunName>(
     Ok(lanes)
 }
 
-impl<W: FlowWork, N: RunName> Crew<W, N> {
+impl<W: FlowWork, N: RunName> LocalRun<W, N> {
     /// All workers, lanes, and what they share, with the memory for all that is parked and sent. The
     /// tables hash by the numbers handed in.
     pub(crate) fn new(
         alloc: Global,
         options: &Options,
         hashing: &FlowHashKey,
-    ) -> Result<Crew<W, N>, NoMemory>
+    ) -> Result<LocalRun<W, N>, NoMemory>
         requires { IsAccepted options.now }
-        ensures { IfOk result (λ crew. IsNew options.now.key (length options.now.start.owners) options.now.cores options.now.pool crew) }
+        ensures { IfOk result (λ local. IsNew options.now.key (length options.now.start.owners) options.now.cores options.now.pool local) }
     {
         let buckets = options.start.buckets();
         let room = options.pool + 1;
@@ -72,7 +72,7 @@ impl<W: FlowWork, N: RunName> Crew<W, N> {
         let shelf = LocalShelf::<BucketTable<W>, N>::new(alloc, &options.key, buckets, hashing)?;
         let pool = LocalPool::new(alloc, options.pool)?;
         let meter = LocalMeter::new(alloc, options.cores)?;
-        Ok(Crew {
+        Ok(LocalRun {
             key: options.key,
             workers,
             lanes,

@@ -1,15 +1,15 @@
 // A sweep over all parties of a run.
 ghost use Rattle.std.specs.Prelude.{◌≡◌, ◌<◌, ◌≤◌, ◌+◌, ◌/◌, ◌^◌, ℕ, length};
-ghost use Rattle.worker_loop.specs.Job.{job};
-ghost use Rattle.dispatch_loop.specs.Face.{face_by};
+ghost use Rattle.worker_loop.specs.Workload.{workload};
+ghost use Rattle.dispatch_loop.specs.DispatcherState.{dispatcher_state_by};
 ghost use Rattle.dispatch_loop.specs.Rules.{BlamesRead};
 ghost use Rattle.dispatch_loop.specs.Terms.{cores_of};
 ghost use Rattle.rsspp_run.specs.Serial.{number_after};
 ghost use Rattle.rsspp_run.specs.Serial as numbers;
-ghost use Rattle.rsspp_run.specs.Sweeps.{Course, Sweeping, InSweep, SweepsOn, Ends, party_at, finish_of, finished_in, is_ended};
+ghost use Rattle.rsspp_run.specs.Sweeps.{RunInputs, Sweeping, InSweep, SweepsOn, EndsSo, party_at, finish_of, finished_in, is_ended};
 
-use crate::crew::Crew;
 use crate::limits::MOST_SWEEPS;
+use crate::local_run::LocalRun;
 use balancer::Balancer;
 use dispatch_loop::{Dispatcher, DispatcherEnd, DispatcherTurn};
 use flow_work::FlowWork;
@@ -63,7 +63,7 @@ fn following(number: u32) -> u32
     number.wrapping_mul(1_664_525).wrapping_add(1_013_904_223)
 }
 
-impl<W: FlowWork, N: RunName> Crew<W, N> {
+impl<W: FlowWork, N: RunName> LocalRun<W, N> {
     // The dispatcher and the workers.
     fn parties(&self) -> usize
         ensures value { result ≡ length self.now.workers + 1 }
@@ -82,9 +82,9 @@ impl<W: FlowWork, N: RunName> Crew<W, N> {
         source: &mut S,
         swept: &mut Swept,
     )
-        requires in_sweep { (run : Course) × (i : ℕ) × InSweep N.packets (job W.opening W.after W.cost_of N.packets) run i swept.old.over swept.old.end (face_by W.cost_of dispatcher.old) self.old reader.old (S.left source.old) × (party ≡ party_at run i) × (i < cores_of run.terms + 1) }
-        ensures in_sweep { (run : Course) (i : ℕ) → InSweep N.packets (job W.opening W.after W.cost_of N.packets) run i swept.old.over swept.old.end (face_by W.cost_of dispatcher.old) self.old reader.old (S.left source.old) → party ≡ party_at run i → i < cores_of run.terms + 1
-            → InSweep N.packets (job W.opening W.after W.cost_of N.packets) run (i + 1) swept.new.over swept.new.end (face_by W.cost_of dispatcher.new) self.new reader.new (S.left source.new) }
+        requires in_sweep { (run : RunInputs) × (i : ℕ) × InSweep N.packets (workload W.opening W.after W.cost_of N.packets) run i swept.old.over swept.old.end (dispatcher_state_by W.cost_of dispatcher.old) self.old reader.old (S.left source.old) × (party ≡ party_at run i) × (i < cores_of run.terms + 1) }
+        ensures in_sweep { (run : RunInputs) (i : ℕ) → InSweep N.packets (workload W.opening W.after W.cost_of N.packets) run i swept.old.over swept.old.end (dispatcher_state_by W.cost_of dispatcher.old) self.old reader.old (S.left source.old) → party ≡ party_at run i → i < cores_of run.terms + 1
+            → InSweep N.packets (workload W.opening W.after W.cost_of N.packets) run (i + 1) swept.new.over swept.new.end (dispatcher_state_by W.cost_of dispatcher.new) self.new reader.new (S.left source.new) }
         ensures blames { (n : ℕ) → BlamesRead dispatcher.old.end n (S.faults source.old) → BlamesRead dispatcher.new.end n (S.faults source.new) }
         ensures origin { S.origin source.new ≡ S.origin source.old }
     {
@@ -107,9 +107,9 @@ impl<W: FlowWork, N: RunName> Crew<W, N> {
         reader: &mut Reader,
         source: &mut S,
     ) -> Option<DispatcherEnd>
-        requires sweeping { (run : Course) × Sweeping N.packets (job W.opening W.after W.cost_of N.packets) run (face_by W.cost_of dispatcher.old) self.old reader.old (S.left source.old) × (number ≡ number_after run.swept run.number) }
-        ensures swept { (run : Course) → Sweeping N.packets (job W.opening W.after W.cost_of N.packets) run (face_by W.cost_of dispatcher.old) self.old reader.old (S.left source.old) → number ≡ number_after run.swept run.number
-            → SweepsOn N.packets (job W.opening W.after W.cost_of N.packets) run result (face_by W.cost_of dispatcher.new) self.new reader.new (S.left source.new) }
+        requires sweeping { (run : RunInputs) × Sweeping N.packets (workload W.opening W.after W.cost_of N.packets) run (dispatcher_state_by W.cost_of dispatcher.old) self.old reader.old (S.left source.old) × (number ≡ number_after run.swept run.number) }
+        ensures swept { (run : RunInputs) → Sweeping N.packets (workload W.opening W.after W.cost_of N.packets) run (dispatcher_state_by W.cost_of dispatcher.old) self.old reader.old (S.left source.old) → number ≡ number_after run.swept run.number
+            → SweepsOn N.packets (workload W.opening W.after W.cost_of N.packets) run result (dispatcher_state_by W.cost_of dispatcher.new) self.new reader.new (S.left source.new) }
         ensures blames { (n : ℕ) → BlamesRead dispatcher.old.end n (S.faults source.old) → BlamesRead dispatcher.new.end n (S.faults source.new) }
         ensures origin { S.origin source.new ≡ S.origin source.old }
     {
@@ -136,9 +136,9 @@ impl<W: FlowWork, N: RunName> Crew<W, N> {
         reader: &mut Reader,
         source: &mut S,
     ) -> DispatcherEnd
-        requires sweeping { (run : Course) × Sweeping N.packets (job W.opening W.after W.cost_of N.packets) run (face_by W.cost_of dispatcher.old) self.old reader.old (S.left source.old) × (run.swept ≡ 0) × (number ≡ run.number) }
-        ensures ended { (run : Course) → Sweeping N.packets (job W.opening W.after W.cost_of N.packets) run (face_by W.cost_of dispatcher.old) self.old reader.old (S.left source.old) → run.swept ≡ 0 → number ≡ run.number
-            → Ends N.packets (job W.opening W.after W.cost_of N.packets) run result (face_by W.cost_of dispatcher.new) self.new reader.new (S.left source.new) }
+        requires sweeping { (run : RunInputs) × Sweeping N.packets (workload W.opening W.after W.cost_of N.packets) run (dispatcher_state_by W.cost_of dispatcher.old) self.old reader.old (S.left source.old) × (run.swept ≡ 0) × (number ≡ run.number) }
+        ensures ended { (run : RunInputs) → Sweeping N.packets (workload W.opening W.after W.cost_of N.packets) run (dispatcher_state_by W.cost_of dispatcher.old) self.old reader.old (S.left source.old) → run.swept ≡ 0 → number ≡ run.number
+            → EndsSo N.packets (workload W.opening W.after W.cost_of N.packets) run result (dispatcher_state_by W.cost_of dispatcher.new) self.new reader.new (S.left source.new) }
         ensures blames { (n : ℕ) → BlamesRead dispatcher.old.end n (S.faults source.old) → BlamesRead dispatcher.new.end n (S.faults source.new) }
         ensures origin { S.origin source.new ≡ S.origin source.old }
     {

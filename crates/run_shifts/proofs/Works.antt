@@ -3,17 +3,17 @@ use Rattle.std.proofs.Common.{◌≡◌, ◌∙◌, map, reverse, subst}
 use Rattle.bucket_table.specs.Table.{TableOf}
 use Rattle.worker_loop.specs.declared.worker_turn.WorkerTurn.{WorkerTurn}
 use Rattle.worker_loop.specs.declared.worker_turn.WorkerTurn.TheVariants.{Ended}
-use Rattle.worker_loop.specs.Job.{Job}
+use Rattle.worker_loop.specs.Workload.{Workload}
 use Rattle.worker_loop.specs.Custodies.{stretch_of}
 use Rattle.worker_loop.specs.Tied.{Tied}
-use Rattle.worker_loop.specs.Scene.{Scene}
+use Rattle.worker_loop.specs.WorkerSnapshot.{WorkerSnapshot}
 use Rattle.worker_loop.specs.Rules.{IsTurn}
 use Rattle.worker_loop.proofs.Seats.{keeps_held, keeps_logged, over_held, keeps_core, keeps_shares}
 use Rattle.worker_loop.proofs.CustodyLogs.{log_stinted, seat_stinted, over_stinted, turn_entries}
 use Rattle.worker_loop.proofs.Promises.{all_worked}
 use Rattle.run_shifts.specs.Work.{IsAtWork, IsDone}
 
-module _ {S : Type 0} (j : Job S) (s t : Scene (TableOf S)) (turn : WorkerTurn) where
+module _ {S : Type 0} (j : Workload S) (s t : WorkerSnapshot (TableOf S)) (turn : WorkerTurn) where
   pub stays_at_work : IsAtWork j s.worker s.lane s.shelf s.meter → Tied j t.worker t.lane t.shelf t.meter → IsTurn j s turn t → IsAtWork j t.worker t.lane t.shelf t.meter
   stays_at_work w tied r = record {
     tied = tied;
@@ -28,7 +28,7 @@ module _ {S : Type 0} (j : Job S) (s t : Scene (TableOf S)) (turn : WorkerTurn) 
   pub same_core_and_run : IsTurn j s turn t → (t.worker.core ≡ s.worker.core) × (t.worker.run ≡ s.worker.run)
   same_core_and_run r = keeps_core j s t turn r
 
-module _ {S : Type 0} (j : Job S) (s t : Scene (TableOf S)) where
+module _ {S : Type 0} (j : Workload S) (s t : WorkerSnapshot (TableOf S)) where
   done : IsAtWork j s.worker s.lane s.shelf s.meter → IsAtWork j t.worker t.lane t.shelf t.meter → IsTurn j s Ended t → IsDone t.worker t.lane t.shelf
   done w w' r = let o = over_held j s t w.held r in record {
     took_end = o.0;

@@ -1,12 +1,12 @@
 ghost use Rattle.std.specs.Prelude.{◌≡◌, ℕ, Some, length, vec_capacity, slice_get};
-ghost use Rattle.worker_loop.specs.Job.{job};
-ghost use Rattle.run_shifts.specs.declared.post.Post.{Post};
-ghost use Rattle.run_shifts.specs.Posts.{IsPost, ArePosts};
+ghost use Rattle.worker_loop.specs.Workload.{workload};
+ghost use Rattle.run_shifts.specs.declared.worker_party.WorkerParty.{WorkerParty};
+ghost use Rattle.run_shifts.specs.WorkerParties.{IsWorkerParty, AreWorkerParties};
 
-use crate::floor::Floor;
 use crate::jobs::beside;
 use crate::one_shift::work_shift;
-use crate::post::Post;
+use crate::shared_objects::SharedObjects;
+use crate::worker_party::WorkerParty;
 use bucket_table::BucketTable;
 use flow_work::FlowWork;
 use packet_fields::RunName;
@@ -15,24 +15,24 @@ use std::sync::Wait;
 use std::thread::Threads;
 use worker_loop::Worker;
 
-// `beside` at posts. Here the types of a worker and of a table are parameters, so that what goes to
+// `beside` at the workers' parties. Here the types of a worker and of a table are parameters, so that what goes to
 // threads is found to be `Send` in two small steps.
-fn at_posts<
+fn at_worker_parties<
     K: Send + Drop,
     T: Send + Drop,
-    F: Fn(Post<K, T>) -> Post<K, T> + Sync,
+    F: Fn(WorkerParty<K, T>) -> WorkerParty<K, T> + Sync,
     R: Threads + Sync,
     B,
     O: FnOnce() -> B + Drop,
->(rt: &R, posts: Vec<Post<K, T>>, f: &F, own: O) -> (Vec<Post<K, T>>, B)
-    requires posts { (i : ℕ) (p : Post K T) → slice_get posts.items i ≡ Some p → F.pre f.now p }
+>(rt: &R, worker_parties: Vec<WorkerParty<K, T>>, f: &F, own: O) -> (Vec<WorkerParty<K, T>>, B)
+    requires worker_parties { (i : ℕ) (p : WorkerParty K T) → slice_get worker_parties.items i ≡ Some p → F.pre f.now p }
     requires own { O.pre own }
-    ensures count { length result.0.items ≡ length posts.items }
-    ensures room { vec_capacity result.0 ≡ vec_capacity posts }
-    ensures posts { (i : ℕ) (r : Post K T) → slice_get result.0.items i ≡ Some r → (p : Post K T) × (slice_get posts.items i ≡ Some p) × F.post f.now p r }
+    ensures count { length result.0.items ≡ length worker_parties.items }
+    ensures room { vec_capacity result.0 ≡ vec_capacity worker_parties }
+    ensures worker_parties { (i : ℕ) (r : WorkerParty K T) → slice_get result.0.items i ≡ Some r → (p : WorkerParty K T) × (slice_get worker_parties.items i ≡ Some p) × F.post f.now p r }
     ensures own { O.post own result.1 }
 {
-    beside(rt, posts, f, own)
+    beside(rt, worker_parties, f, own)
 }
 
 /// A shift of each core in a thread of its own, while the caller does its own part.
@@ -45,26 +45,29 @@ pub(crate) fn shifts<
     O: FnOnce() -> B + Drop,
 >(
     rt: &R,
-    floor: &Floor<W, N>,
+    shared: &SharedObjects<W, N>,
     work: &W,
     gate: &G,
-    posts: Vec<Post<Worker<W>, BucketTable<W>>>,
+    worker_parties: Vec<WorkerParty<Worker<W>, BucketTable<W>>>,
     own: O,
-) -> (Vec<Post<Worker<W>, BucketTable<W>>>, B)
-    requires posts { ArePosts (job W.opening W.after W.cost_of N.packets) floor.now posts.items }
+) -> (Vec<WorkerParty<Worker<W>, BucketTable<W>>>, B)
+    requires worker_parties { AreWorkerParties (workload W.opening W.after W.cost_of N.packets) shared.now worker_parties.items }
     requires own { O.pre own }
-    ensures posts { ArePosts (job W.opening W.after W.cost_of N.packets) floor.now result.0.items }
-    ensures count { length result.0.items ≡ length posts.items }
-    ensures room { vec_capacity result.0 ≡ vec_capacity posts }
+    ensures worker_parties { AreWorkerParties (workload W.opening W.after W.cost_of N.packets) shared.now result.0.items }
+    ensures count { length result.0.items ≡ length worker_parties.items }
+    ensures room { vec_capacity result.0 ≡ vec_capacity worker_parties }
     ensures own { O.post own result.1 }
 {
-    at_posts(
+    at_worker_parties(
         rt,
-        posts,
-        &|post: Post<Worker<W>, BucketTable<W>>| -> Post<Worker<W>, BucketTable<W>>
-            requires { IsPost (job W.opening W.after W.cost_of N.packets) floor.now post }
-            ensures { (result.core ≡ post.core) × IsPost (job W.opening W.after W.cost_of N.packets) floor.entry.now result }
-        { work_shift(rt, floor, work, gate, post) },
+        worker_parties,
+        &|worker_party: WorkerParty<Worker<W>, BucketTable<W>>| -> WorkerParty<
+            Worker<W>,
+            BucketTable<W>,
+        >
+            requires { IsWorkerParty (workload W.opening W.after W.cost_of N.packets) shared.now worker_party }
+            ensures { (result.core ≡ worker_party.core) × IsWorkerParty (workload W.opening W.after W.cost_of N.packets) shared.entry.now result }
+        { work_shift(rt, shared, work, gate, worker_party) },
         own,
     )
 }

@@ -1,10 +1,10 @@
 ghost use Rattle.std.specs.Prelude.{◌≡◌};
-ghost use Rattle.worker_loop.specs.Job.{job};
-ghost use Rattle.run_shifts.specs.Posts.{IsPost};
+ghost use Rattle.worker_loop.specs.Workload.{workload};
+ghost use Rattle.run_shifts.specs.WorkerParties.{IsWorkerParty};
 
-use crate::floor::Floor;
-use crate::post::Post;
+use crate::shared_objects::SharedObjects;
 use crate::turning::work_turns;
+use crate::worker_party::WorkerParty;
 use bucket_table::BucketTable;
 use flow_work::FlowWork;
 use packet_fields::RunName;
@@ -15,15 +15,15 @@ use worker_loop::Worker;
 /// One shift of a core: makes its ends, takes turns, and gives the passes and seats back.
 pub(crate) fn work_shift<W: FlowWork + Drop, N: RunName + Drop, G: Gate, R: Wait>(
     rt: &R,
-    floor: &Floor<W, N>,
+    shared: &SharedObjects<W, N>,
     work: &W,
     gate: &G,
-    post: Post<Worker<W>, BucketTable<W>>,
-) -> Post<Worker<W>, BucketTable<W>>
-    requires { IsPost (job W.opening W.after W.cost_of N.packets) floor.now post }
-    ensures { (result.core ≡ post.core) × IsPost (job W.opening W.after W.cost_of N.packets) floor.now result }
+    worker_party: WorkerParty<Worker<W>, BucketTable<W>>,
+) -> WorkerParty<Worker<W>, BucketTable<W>>
+    requires { IsWorkerParty (workload W.opening W.after W.cost_of N.packets) shared.now worker_party }
+    ensures { (result.core ≡ worker_party.core) × IsWorkerParty (workload W.opening W.after W.cost_of N.packets) shared.now result }
 {
-    let Post {
+    let WorkerParty {
         core,
         mut worker,
         taker,
@@ -31,12 +31,12 @@ pub(crate) fn work_shift<W: FlowWork + Drop, N: RunName + Drop, G: Gate, R: Wait
         load,
         cells,
         ended: _,
-    } = post;
-    let lane = &floor.lanes[core as usize];
+    } = worker_party;
+    let lane = &shared.lanes[core as usize];
     let mut lane_end = lane.taker(rt, taker);
-    let mut shelf_end = floor.shelf.end(seat);
-    let mut pool_end = floor.pool.end(rt, cells);
-    let mut meter_end = floor.meter.end(load);
+    let mut shelf_end = shared.shelf.end(seat);
+    let mut pool_end = shared.pool.end(rt, cells);
+    let mut meter_end = shared.meter.end(load);
     let ended = work_turns::<N, W, _, _, _, _, G, R>(
         rt,
         &mut worker,
@@ -47,7 +47,7 @@ pub(crate) fn work_shift<W: FlowWork + Drop, N: RunName + Drop, G: Gate, R: Wait
         &mut meter_end,
         gate,
     );
-    Post {
+    WorkerParty {
         core,
         worker,
         taker: lane_end.into_pass(),

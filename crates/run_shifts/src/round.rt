@@ -1,17 +1,17 @@
 ghost use Rattle.std.specs.Prelude.{◌≡◌, IfSome, length};
 ghost use Rattle.bucket_table.specs.Table.{TableOf};
-ghost use Rattle.worker_loop.specs.Job.{job};
-ghost use Rattle.dispatch_loop.specs.Face.{face_by};
+ghost use Rattle.worker_loop.specs.Workload.{workload};
+ghost use Rattle.dispatch_loop.specs.DispatcherState.{dispatcher_state_by};
 ghost use Rattle.dispatch_loop.specs.Stays.{IsTied};
-ghost use Rattle.run_shifts.specs.Desks.{Leads, HasFinished};
+ghost use Rattle.run_shifts.specs.DispatcherTurns.{Leads, HasFinished};
 ghost use Rattle.run_shifts.specs.Lends.{MayLend, Lent};
-ghost use Rattle.run_shifts.specs.Places.{at_desk, station_by, SameEnds};
-ghost use Rattle.run_shifts.specs.Posts.{ArePosts};
+ghost use Rattle.run_shifts.specs.Parties.{party_snapshot, party_state_by, SameEnds};
+ghost use Rattle.run_shifts.specs.WorkerParties.{AreWorkerParties};
 
 use crate::all_shifts::shifts;
-use crate::desk::{Desk, dispatch_shift};
-use crate::floor::Floor;
-use crate::post::Post;
+use crate::dispatcher_party::{DispatcherParty, dispatch_shift};
+use crate::shared_objects::SharedObjects;
+use crate::worker_party::WorkerParty;
 use bucket_table::BucketTable;
 use dispatch_loop::DispatcherEnd;
 use flow_work::FlowWork;
@@ -27,7 +27,7 @@ fn take_back<T>(x: &mut T)
 {}
 
 // A shift of each core in a thread of its own, while the caller calls f with what it is lent. Here
-// the type of the desk is a parameter: a reference to a type that names a lifetime isn't tied to the
+// the type of the dispatcher's party is a parameter: a reference to a type that names a lifetime isn't tied to the
 // one that comes back. The parameters of f stand first, since the check refuses them further behind.
 fn round_with<
     D,
@@ -40,38 +40,38 @@ fn round_with<
     R: Threads + Wait + Sync,
 >(
     rt: &R,
-    floor: &Floor<W, N>,
+    shared: &SharedObjects<W, N>,
     work: &W,
     gate: &G,
     source: &mut S,
-    posts: Vec<Post<Worker<W>, BucketTable<W>>>,
-    desk: &mut D,
+    worker_parties: Vec<WorkerParty<Worker<W>, BucketTable<W>>>,
+    dispatcher_party: &mut D,
     f: &F,
-) -> (Vec<Post<Worker<W>, BucketTable<W>>>, A)
-    requires posts { ArePosts (job W.opening W.after W.cost_of N.packets) floor.now posts.items }
-    requires may { MayLend (λ p q. F.pre f.now p q) desk.old source.old }
-    ensures posts { ArePosts (job W.opening W.after W.cost_of N.packets) floor.now result.0.items }
-    ensures count { length result.0.items ≡ length posts.items }
-    ensures lent { Lent (λ p q r p' q'. F.post f.now p q r p' q') desk.old source.old result.1 desk.new source.new }
+) -> (Vec<WorkerParty<Worker<W>, BucketTable<W>>>, A)
+    requires worker_parties { AreWorkerParties (workload W.opening W.after W.cost_of N.packets) shared.now worker_parties.items }
+    requires may { MayLend (λ p q. F.pre f.now p q) dispatcher_party.old source.old }
+    ensures worker_parties { AreWorkerParties (workload W.opening W.after W.cost_of N.packets) shared.now result.0.items }
+    ensures count { length result.0.items ≡ length worker_parties.items }
+    ensures lent { Lent (λ p q r p' q'. F.post f.now p q r p' q') dispatcher_party.old source.old result.1 dispatcher_party.new source.new }
 {
-    let (posts, (desk, source, answer)) = shifts(
+    let (worker_parties, (dispatcher_party, source, answer)) = shifts(
         rt,
-        floor,
+        shared,
         work,
         gate,
-        posts,
+        worker_parties,
         move || -> (&mut D, &mut S, A)
-            requires { MayLend (λ p q. F.pre f.now p q) desk.now source.now }
-            ensures name { (result.0.ghost_name ≡ desk.entry.ghost_name) × (result.1.ghost_name ≡ source.entry.ghost_name) }
-            ensures lent { Lent (λ p q r p' q'. F.post f.entry.now p q r p' q') desk.entry.now source.entry.now result.2 result.0.now result.1.now }
+            requires { MayLend (λ p q. F.pre f.now p q) dispatcher_party.now source.now }
+            ensures name { (result.0.ghost_name ≡ dispatcher_party.entry.ghost_name) × (result.1.ghost_name ≡ source.entry.ghost_name) }
+            ensures lent { Lent (λ p q r p' q'. F.post f.entry.now p q r p' q') dispatcher_party.entry.now source.entry.now result.2 result.0.now result.1.now }
         {
-            let answer = f(desk, source);
-            (desk, source, answer)
+            let answer = f(dispatcher_party, source);
+            (dispatcher_party, source, answer)
         },
     );
-    take_back(desk);
+    take_back(dispatcher_party);
     take_back(source);
-    (posts, answer)
+    (worker_parties, answer)
 }
 
 /// One shift of each party: the dispatcher's on the caller's thread, the workers' in threads.
@@ -84,36 +84,41 @@ pub(crate) fn one_round<
     R: Threads + Wait + Sync,
 >(
     rt: &R,
-    floor: &Floor<W, N>,
+    shared: &SharedObjects<W, N>,
     work: &W,
     gate: &G,
     source: &mut S,
-    posts: Vec<Post<Worker<W>, BucketTable<W>>>,
-    desk: &mut Desk<'a, W, N, R>,
-) -> (Vec<Post<Worker<W>, BucketTable<W>>>, Option<DispatcherEnd>)
-    requires posts { ArePosts (job W.opening W.after W.cost_of N.packets) floor.now posts.items }
-    requires tied { IsTied N.packets (at_desk {T = TableOf W.State} (station_by W.cost_of desk.old) (S.left source.old) (S.faults source.old)) }
-    ensures posts { ArePosts (job W.opening W.after W.cost_of N.packets) floor.now result.0.items }
-    ensures count { length result.0.items ≡ length posts.items }
-    ensures leads { Leads N.packets (at_desk {T = TableOf W.State} (station_by W.cost_of desk.old) (S.left source.old) (S.faults source.old)) (at_desk (station_by W.cost_of desk.new) (S.left source.new) (S.faults source.new)) }
-    ensures finished { IfSome result.1 (λ end. HasFinished end (face_by W.cost_of desk.new.dispatcher)) }
-    ensures ends { SameEnds (station_by W.cost_of desk.old) (station_by W.cost_of desk.new) }
+    worker_parties: Vec<WorkerParty<Worker<W>, BucketTable<W>>>,
+    dispatcher_party: &mut DispatcherParty<'a, W, N, R>,
+) -> (
+    Vec<WorkerParty<Worker<W>, BucketTable<W>>>,
+    Option<DispatcherEnd>,
+)
+    requires worker_parties { AreWorkerParties (workload W.opening W.after W.cost_of N.packets) shared.now worker_parties.items }
+    requires tied { IsTied N.packets (party_snapshot {T = TableOf W.State} (party_state_by W.cost_of dispatcher_party.old) (S.left source.old) (S.faults source.old)) }
+    ensures worker_parties { AreWorkerParties (workload W.opening W.after W.cost_of N.packets) shared.now result.0.items }
+    ensures count { length result.0.items ≡ length worker_parties.items }
+    ensures leads { Leads N.packets (party_snapshot {T = TableOf W.State} (party_state_by W.cost_of dispatcher_party.old) (S.left source.old) (S.faults source.old)) (party_snapshot (party_state_by W.cost_of dispatcher_party.new) (S.left source.new) (S.faults source.new)) }
+    ensures finished { IfSome result.1 (λ end. HasFinished end (dispatcher_state_by W.cost_of dispatcher_party.new.dispatcher)) }
+    ensures ends { SameEnds (party_state_by W.cost_of dispatcher_party.old) (party_state_by W.cost_of dispatcher_party.new) }
     ensures origin { S.origin source.new ≡ S.origin source.old }
 {
     round_with(
         rt,
-        floor,
+        shared,
         work,
         gate,
         source,
-        posts,
-        desk,
-        &|desk: &mut Desk<'_, W, N, R>, source: &mut S| -> Option<DispatcherEnd>
-            requires { IsTied N.packets (at_desk {T = TableOf W.State} (station_by W.cost_of desk.old) (S.left source.old) (S.faults source.old)) }
-            ensures leads { Leads N.packets (at_desk {T = TableOf W.State} (station_by W.cost_of desk.old) (S.left source.old) (S.faults source.old)) (at_desk (station_by W.cost_of desk.new) (S.left source.new) (S.faults source.new)) }
-            ensures finished { IfSome result (λ end. HasFinished end (face_by W.cost_of desk.new.dispatcher)) }
-            ensures ends { SameEnds (station_by W.cost_of desk.old) (station_by W.cost_of desk.new) }
+        worker_parties,
+        dispatcher_party,
+        &|dispatcher_party: &mut DispatcherParty<'_, W, N, R>, source: &mut S| -> Option<
+            DispatcherEnd,
+        >
+            requires { IsTied N.packets (party_snapshot {T = TableOf W.State} (party_state_by W.cost_of dispatcher_party.old) (S.left source.old) (S.faults source.old)) }
+            ensures leads { Leads N.packets (party_snapshot {T = TableOf W.State} (party_state_by W.cost_of dispatcher_party.old) (S.left source.old) (S.faults source.old)) (party_snapshot (party_state_by W.cost_of dispatcher_party.new) (S.left source.new) (S.faults source.new)) }
+            ensures finished { IfSome result (λ end. HasFinished end (dispatcher_state_by W.cost_of dispatcher_party.new.dispatcher)) }
+            ensures ends { SameEnds (party_state_by W.cost_of dispatcher_party.old) (party_state_by W.cost_of dispatcher_party.new) }
             ensures origin { S.origin source.new ≡ S.origin source.old }
-        { dispatch_shift(rt, desk, work, source) },
+        { dispatch_shift(rt, dispatcher_party, work, source) },
     )
 }

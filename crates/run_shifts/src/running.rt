@@ -1,16 +1,16 @@
 ghost use Rattle.std.specs.Prelude.{◌≡◌, IsTrue, length};
 ghost use Rattle.bucket_table.specs.Table.{TableOf};
-ghost use Rattle.worker_loop.specs.Job.{job};
-ghost use Rattle.dispatch_loop.specs.Face.{face_by};
+ghost use Rattle.worker_loop.specs.Workload.{workload};
+ghost use Rattle.dispatch_loop.specs.DispatcherState.{dispatcher_state_by};
 ghost use Rattle.dispatch_loop.specs.Stays.{IsTied};
-ghost use Rattle.run_shifts.specs.Desks.{Leads, HasFinished};
-ghost use Rattle.run_shifts.specs.Places.{at_desk, station_by, SameEnds};
-ghost use Rattle.run_shifts.specs.Posts.{ArePosts, HaveEnded};
+ghost use Rattle.run_shifts.specs.DispatcherTurns.{Leads, HasFinished};
+ghost use Rattle.run_shifts.specs.Parties.{party_snapshot, party_state_by, SameEnds};
+ghost use Rattle.run_shifts.specs.WorkerParties.{AreWorkerParties, HaveEnded};
 
-use crate::desk::Desk;
-use crate::floor::Floor;
-use crate::post::Post;
+use crate::dispatcher_party::DispatcherParty;
 use crate::round::one_round;
+use crate::shared_objects::SharedObjects;
+use crate::worker_party::WorkerParty;
 use bucket_table::BucketTable;
 use dispatch_loop::DispatcherEnd;
 use flow_work::FlowWork;
@@ -20,11 +20,11 @@ use std::sync::Wait;
 use std::thread::Threads;
 use worker_loop::Worker;
 
-fn all_ended<K, T>(posts: &Vec<Post<K, T>>) -> bool
-    ensures { IsTrue result → HaveEnded posts.now.items }
+fn all_ended<K, T>(worker_parties: &Vec<WorkerParty<K, T>>) -> bool
+    ensures { IsTrue result → HaveEnded worker_parties.now.items }
 {
-    for post in posts.iter() {
-        if !post.ended {
+    for worker_party in worker_parties.iter() {
+        if !worker_party.ended {
             return false;
         }
     }
@@ -42,29 +42,37 @@ pub fn run_shifts<
     R: Threads + Wait + Sync,
 >(
     rt: &R,
-    floor: &Floor<W, N>,
+    shared: &SharedObjects<W, N>,
     work: &W,
     gate: &G,
     source: &mut S,
-    mut posts: Vec<Post<Worker<W>, BucketTable<W>>>,
-    desk: &mut Desk<'a, W, N, R>,
-) -> (Vec<Post<Worker<W>, BucketTable<W>>>, DispatcherEnd)
-    requires posts { ArePosts (job W.opening W.after W.cost_of N.packets) floor.now posts.items }
-    requires tied { IsTied N.packets (at_desk {T = TableOf W.State} (station_by W.cost_of desk.old) (S.left source.old) (S.faults source.old)) }
-    ensures posts { ArePosts (job W.opening W.after W.cost_of N.packets) floor.now result.0.items }
-    ensures count { length result.0.items ≡ length posts.items }
-    ensures leads { Leads N.packets (at_desk {T = TableOf W.State} (station_by W.cost_of desk.old) (S.left source.old) (S.faults source.old)) (at_desk (station_by W.cost_of desk.new) (S.left source.new) (S.faults source.new)) }
-    ensures finished { HasFinished result.1 (face_by W.cost_of desk.new.dispatcher) }
-    ensures ends { SameEnds (station_by W.cost_of desk.old) (station_by W.cost_of desk.new) }
+    mut worker_parties: Vec<WorkerParty<Worker<W>, BucketTable<W>>>,
+    dispatcher_party: &mut DispatcherParty<'a, W, N, R>,
+) -> (Vec<WorkerParty<Worker<W>, BucketTable<W>>>, DispatcherEnd)
+    requires worker_parties { AreWorkerParties (workload W.opening W.after W.cost_of N.packets) shared.now worker_parties.items }
+    requires tied { IsTied N.packets (party_snapshot {T = TableOf W.State} (party_state_by W.cost_of dispatcher_party.old) (S.left source.old) (S.faults source.old)) }
+    ensures worker_parties { AreWorkerParties (workload W.opening W.after W.cost_of N.packets) shared.now result.0.items }
+    ensures count { length result.0.items ≡ length worker_parties.items }
+    ensures leads { Leads N.packets (party_snapshot {T = TableOf W.State} (party_state_by W.cost_of dispatcher_party.old) (S.left source.old) (S.faults source.old)) (party_snapshot (party_state_by W.cost_of dispatcher_party.new) (S.left source.new) (S.faults source.new)) }
+    ensures finished { HasFinished result.1 (dispatcher_state_by W.cost_of dispatcher_party.new.dispatcher) }
+    ensures ends { SameEnds (party_state_by W.cost_of dispatcher_party.old) (party_state_by W.cost_of dispatcher_party.new) }
     ensures origin { S.origin source.new ≡ S.origin source.old }
     ensures ended { HaveEnded result.0.items }
 {
     for _ in rt.forever() {
-        let (next, end) = one_round(rt, floor, work, gate, source, posts, desk);
-        posts = next;
+        let (next, end) = one_round(
+            rt,
+            shared,
+            work,
+            gate,
+            source,
+            worker_parties,
+            dispatcher_party,
+        );
+        worker_parties = next;
         if let Some(end) = end {
-            if all_ended(&posts) {
-                return (posts, end);
+            if all_ended(&worker_parties) {
+                return (worker_parties, end);
             }
         }
     }

@@ -1,6 +1,6 @@
 ghost use Rattle.std.specs.Prelude.{◌≡◌, IsTrue};
 ghost use Rattle.worker_loop.specs.declared.worker_turn.WorkerTurn.TheVariants.{Ended};
-ghost use Rattle.worker_loop.specs.Job.{job};
+ghost use Rattle.worker_loop.specs.Workload.{workload};
 ghost use Rattle.run_shifts.specs.Work.{IsAtWork, IsDone};
 
 use bucket_table::BucketTable;
@@ -36,11 +36,11 @@ fn one_turn<
     meter: &mut M,
     gate: &G,
 ) -> WorkerTurn
-    requires { IsAtWork (job W.opening W.after W.cost_of N.packets) worker.old.face (LI.eye lane.old) (H.eye shelf.old) (M.eye meter.old) }
-    ensures work { IsAtWork (job W.opening W.after W.cost_of N.packets) worker.new.face (LI.eye lane.new) (H.eye shelf.new) (M.eye meter.new) }
-    ensures ended { result ≡ Ended → IsDone worker.new.face (LI.eye lane.new) (H.eye shelf.new) }
+    requires { IsAtWork (workload W.opening W.after W.cost_of N.packets) worker.old.state (LI.history lane.old) (H.history shelf.old) (M.history meter.old) }
+    ensures work { IsAtWork (workload W.opening W.after W.cost_of N.packets) worker.new.state (LI.history lane.new) (H.history shelf.new) (M.history meter.new) }
+    ensures ended { result ≡ Ended → IsDone worker.new.state (LI.history lane.new) (H.history shelf.new) }
     ensures homes { (LI.home lane.new ≡ LI.home lane.old) × (H.home shelf.new ≡ H.home shelf.old) × (M.home meter.new ≡ M.home meter.old) × (P.home pool.new ≡ P.home pool.old) }
-    ensures same { (worker.new.face.core ≡ worker.old.face.core) × (worker.new.face.run ≡ worker.old.face.run) }
+    ensures same { (worker.new.state.core ≡ worker.old.state.core) × (worker.new.state.run ≡ worker.old.state.run) }
 {
     worker.turn::<N, LI, H, P, M, G>(work, lane, shelf, pool, meter, gate)
 }
@@ -66,11 +66,11 @@ pub(crate) fn work_turns<
     meter: &mut M,
     gate: &G,
 ) -> bool
-    requires { IsAtWork (job W.opening W.after W.cost_of N.packets) worker.old.face (LI.eye lane.old) (H.eye shelf.old) (M.eye meter.old) }
-    ensures work { IsAtWork (job W.opening W.after W.cost_of N.packets) worker.new.face (LI.eye lane.new) (H.eye shelf.new) (M.eye meter.new) }
-    ensures ended { IsTrue result → IsDone worker.new.face (LI.eye lane.new) (H.eye shelf.new) }
+    requires { IsAtWork (workload W.opening W.after W.cost_of N.packets) worker.old.state (LI.history lane.old) (H.history shelf.old) (M.history meter.old) }
+    ensures work { IsAtWork (workload W.opening W.after W.cost_of N.packets) worker.new.state (LI.history lane.new) (H.history shelf.new) (M.history meter.new) }
+    ensures ended { IsTrue result → IsDone worker.new.state (LI.history lane.new) (H.history shelf.new) }
     ensures homes { (LI.home lane.new ≡ LI.home lane.old) × (H.home shelf.new ≡ H.home shelf.old) × (M.home meter.new ≡ M.home meter.old) × (P.home pool.new ≡ P.home pool.old) }
-    ensures same { (worker.new.face.core ≡ worker.old.face.core) × (worker.new.face.run ≡ worker.old.face.run) }
+    ensures same { (worker.new.state.core ≡ worker.old.state.core) × (worker.new.state.run ≡ worker.old.state.run) }
 {
     let mut idle = 0u32;
     for _ in rt.forever() {

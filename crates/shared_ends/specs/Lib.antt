@@ -1,2 +1,3 @@
+-- Read Packets and Sides, which contracts speak of.
 pub mod Packets
 pub mod Sides

@@ -21,13 +21,13 @@ fn work_at<R: Wait, W: FlowWork, N: RunName>(
     bucket: u16,
     place: u32,
 )
-    requires range { bucket < end.old.eye.buckets }
+    requires range { bucket < end.old.history.buckets }
     requires room { place < MOST_PACKETS }
-    requires free { end.old.eye.held ≡ [] }
-    requires packet { IsPacketAt N.packets end.old.eye.key end.old.eye.buckets bucket place packet.now }
+    requires free { end.old.history.held ≡ [] }
+    requires packet { IsPacketAt N.packets end.old.history.key end.old.history.buckets bucket place packet.now }
     ensures home { end.new.home ≡ end.old.home }
-    ensures run { (end.new.eye.key ≡ end.old.eye.key) × (end.new.eye.buckets ≡ end.old.eye.buckets) }
-    ensures free { end.new.eye.held ≡ [] }
+    ensures run { (end.new.history.key ≡ end.old.history.key) × (end.new.history.buckets ≡ end.old.history.buckets) }
+    ensures free { end.new.history.held ≡ [] }
 {
     for _ in rt.forever() {
         if work_one::<W, N, _>(end, work, packet, bucket, place).is_ok() {

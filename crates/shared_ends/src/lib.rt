@@ -5,6 +5,9 @@
 //! what closing gives once the threads are joined: [`send_and_work`] has one thread send a packet
 //! and another work it, over a lane, a shelf, a pool and a meter at once, and [`work_in_turn`] has
 //! two threads hand a bucket's table to each other for each packet.
+//!
+//! Read `side.rt` and `specs/Sides.antt`, then `specs/Packets.antt`, `parties.rt` and `in_turn.rt`.
+//! `sending.rt`, `working.rt` and `work_one.rt` are what a party does in its thread.
 #![tactic(auto)]
 
 mod in_turn;

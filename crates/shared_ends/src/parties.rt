@@ -1,7 +1,7 @@
 ghost use Rattle.std.specs.Prelude.{◌≡◌, ◌+◌, ◌<◌, ◌≤◌, ◌++◌, [], vec_len, vec_capacity};
 ghost use Rattle.handover_words.specs.Stands.{IsTableOf};
 ghost use Rattle.core_queue.specs.RuledLane.{HasEnd};
-ghost use Rattle.load_meter.specs.LoadEye.{noted_at};
+ghost use Rattle.load_meter.specs.LoadHistory.{noted_at};
 ghost use Rattle.shared_ends.specs.Packets.{IsPacketAt};
 ghost use Rattle.shared_ends.specs.Sides.{IsAt, IsTakenWhole, IsClosed, stretches};
 
@@ -49,30 +49,30 @@ fn in_two_threads<R: Threads + Wait + Sync, W: FlowWork + Sync, N: RunName + Syn
 )
     requires sender { IsAt lane.now shelf.now pool.now meter.now sender }
     requires taker { IsAt lane.now shelf.now pool.now meter.now taker }
-    requires new { sender.lane.eye.sent ≡ [] }
-    requires none { noted_at core taker.load.eye ≡ 0 }
+    requires new { sender.lane.history.sent ≡ [] }
+    requires none { noted_at core taker.load.history ≡ 0 }
     requires range { (bucket < shelf.now.run.buckets) × (core < meter.now.cores) }
     requires packet { IsPacketAt N.packets shelf.now.run.key shelf.now.run.buckets bucket 0 packet.now }
     ensures sender { IsAt lane.now shelf.now pool.now meter.now result.0 }
     ensures taker { IsAt lane.now shelf.now pool.now meter.now result.1.0 }
-    ensures shares { (result.0.seat.eye.shares ≡ sender.seat.eye.shares) × (result.1.0.seat.eye.shares ≡ taker.seat.eye.shares) }
-    ensures idle { (result.0.seat.eye.ended ≡ sender.seat.eye.ended) × (result.0.load.eye.noted ≡ sender.load.eye.noted) }
-    ensures whole { HasEnd result.1.0.lane.eye.taken }
-    ensures ended { result.1.0.seat.eye.ended ≡ stretches bucket result.1.1 ++ taker.seat.eye.ended }
-    ensures noted { noted_at core result.1.0.load.eye ≡ result.1.1 }
+    ensures shares { (result.0.seat.history.shares ≡ sender.seat.history.shares) × (result.1.0.seat.history.shares ≡ taker.seat.history.shares) }
+    ensures idle { (result.0.seat.history.ended ≡ sender.seat.history.ended) × (result.0.load.history.noted ≡ sender.load.history.noted) }
+    ensures whole { HasEnd result.1.0.lane.history.taken }
+    ensures ended { result.1.0.seat.history.ended ≡ stretches bucket result.1.1 ++ taker.seat.history.ended }
+    ensures noted { noted_at core result.1.0.load.history ≡ result.1.1 }
 {
     thread::join(
         rt,
         move ||
             requires at { IsAt lane.now shelf.now pool.now meter.now sender }
-            requires new { sender.lane.eye.sent ≡ [] }
+            requires new { sender.lane.history.sent ≡ [] }
             requires range { (bucket < shelf.now.run.buckets) × (core < meter.now.cores) }
             requires packet { IsPacketAt N.packets shelf.now.run.key shelf.now.run.buckets bucket 0 packet.now }
         { sends(rt, lane, shelf, pool, meter, sender, bucket, core, packet) },
         move ||
             requires at { IsAt lane.now shelf.now pool.now meter.now taker }
             requires range { (bucket < shelf.now.run.buckets) × (core < meter.now.cores) }
-            requires none { noted_at core taker.load.eye ≡ 0 }
+            requires none { noted_at core taker.load.history ≡ 0 }
         { works(rt, lane, shelf, pool, meter, taker, bucket, core, work) },
     )
 }
@@ -98,16 +98,16 @@ pub fn send_and_work<R: Threads + Wait + Sync, W: FlowWork + Sync, N: RunName + 
 ) -> Left
     requires sender { IsAt lane shelf pool.now meter.now sender }
     requires taker { IsAt lane shelf pool.now meter.now taker }
-    requires shares { sender.seat.eye.shares + taker.seat.eye.shares ≡ shelf.run.ends }
-    requires new { (sender.lane.eye.sent ≡ []) × (sender.seat.eye.ended ≡ []) × (taker.seat.eye.ended ≡ []) }
-    requires none { (sender.load.eye.noted ≡ []) × (noted_at core taker.load.eye ≡ 0) }
+    requires shares { sender.seat.history.shares + taker.seat.history.shares ≡ shelf.run.ends }
+    requires new { (sender.lane.history.sent ≡ []) × (sender.seat.history.ended ≡ []) × (taker.seat.history.ended ≡ []) }
+    requires none { (sender.load.history.noted ≡ []) × (noted_at core taker.load.history ≡ 0) }
     requires range { (bucket < shelf.run.buckets) × (core < meter.now.cores) }
     requires packet { IsPacketAt N.packets shelf.run.key shelf.run.buckets bucket 0 packet.now }
     requires room { vec_len into.old + shelf.run.buckets ≤ vec_capacity into.old }
     ensures lane { IsTakenWhole N.packets shelf.run result.lane }
     ensures shelf { result.shelf ≡ stretches bucket result.worked }
     ensures tables { IsClosed (IsTableOf W.opening W.after N.packets) shelf.run result.shelf into.old.items into.new.items }
-    ensures load { (result.load.home ≡ meter.now.home) × (noted_at core result.load.eye ≡ result.worked) }
+    ensures load { (result.load.home ≡ meter.now.home) × (noted_at core result.load.history ≡ result.worked) }
 {
     let (sender, (taker, worked)) = in_two_threads(
         rt, &lane, &shelf, pool, meter, sender, taker, work, packet, bucket, core,

@@ -40,12 +40,12 @@ fn send_packet<N: RunName, L: LaneOut<N>, P: Pool>(
     bucket: u16,
     packet: &PacketInfo,
 )
-    requires new { (L.eye lane.old).sent ≡ [] }
-    requires range { bucket < (L.eye lane.old).buckets }
-    requires packet { IsPacketAt N.packets (L.eye lane.old).key (L.eye lane.old).buckets bucket 0 packet.now }
+    requires new { (L.history lane.old).sent ≡ [] }
+    requires range { bucket < (L.history lane.old).buckets }
+    requires packet { IsPacketAt N.packets (L.history lane.old).key (L.history lane.old).buckets bucket 0 packet.now }
     ensures homes { (L.home lane.new ≡ L.home lane.old) × (P.home pool.new ≡ P.home pool.old) }
-    ensures run { SameRun (L.eye lane.old) (L.eye lane.new) }
-    ensures legal { LegalCells N.packets (L.eye lane.new).key (L.eye lane.new).buckets ((L.eye lane.new).sent ++ Close ∷ []) }
+    ensures run { SameRun (L.history lane.old) (L.history lane.new) }
+    ensures legal { LegalCells N.packets (L.history lane.new).key (L.history lane.new).buckets ((L.history lane.new).sent ++ Close ∷ []) }
 {
     if let Some(cell) = pool.take() {
         if let Err(Item::Cell(cell)) = lane.push(Item::Cell(filled(cell, bucket, packet))) {
@@ -56,9 +56,9 @@ fn send_packet<N: RunName, L: LaneOut<N>, P: Pool>(
 
 // Sends End, as soon as the lane has room.
 fn send_end<R: Wait, N: RunName, L: LaneOut<N>>(rt: &R, lane: &mut L)
-    requires legal { LegalCells N.packets (L.eye lane.old).key (L.eye lane.old).buckets ((L.eye lane.old).sent ++ Close ∷ []) }
+    requires legal { LegalCells N.packets (L.history lane.old).key (L.history lane.old).buckets ((L.history lane.old).sent ++ Close ∷ []) }
     ensures home { L.home lane.new ≡ L.home lane.old }
-    ensures run { SameRun (L.eye lane.old) (L.eye lane.new) }
+    ensures run { SameRun (L.history lane.old) (L.history lane.new) }
 {
     for _ in rt.forever() {
         if lane.push(Item::End).is_ok() {
@@ -82,13 +82,13 @@ pub(crate) fn sends<R: Wait, W: FlowWork, N: RunName>(
     packet: &PacketInfo,
 ) -> Side<SenderPass, BucketTable<W>>
     requires at { IsAt lane.now shelf.now pool.now meter.now side }
-    requires new { side.lane.eye.sent ≡ [] }
+    requires new { side.lane.history.sent ≡ [] }
     requires range { (bucket < shelf.now.run.buckets) × (core < meter.now.cores) }
     requires packet { IsPacketAt N.packets shelf.now.run.key shelf.now.run.buckets bucket 0 packet.now }
     ensures at { IsAt lane.now shelf.now pool.now meter.now result }
-    ensures shares { result.seat.eye.shares ≡ side.seat.eye.shares }
-    ensures ended { result.seat.eye.ended ≡ side.seat.eye.ended }
-    ensures noted { result.load.eye.noted ≡ side.load.eye.noted }
+    ensures shares { result.seat.history.shares ≡ side.seat.history.shares }
+    ensures ended { result.seat.history.ended ≡ side.seat.history.ended }
+    ensures noted { result.load.history.noted ≡ side.load.history.noted }
 {
     let Side {
         lane: pass,

@@ -2,7 +2,7 @@
 ghost use Rattle.std.specs.Prelude.{◌≡◌, ◌+◌, ◌<◌, ℕ, MatchResult, IsSome};
 ghost use Rattle.toeplitz.specs.declared.key.Key.{Key};
 ghost use Rattle.handover_words.specs.Stands.{Stands};
-ghost use Rattle.handover_words.specs.ShelfEye.{released, claimed, saw};
+ghost use Rattle.handover_words.specs.ShelfHistory.{released, claimed, saw};
 ghost use Rattle.shared_ends.specs.Packets.{IsPacketAt};
 
 use bucket_table::BucketTable;
@@ -33,13 +33,13 @@ pub(crate) fn work_one<W: FlowWork, N: RunName, H: Shelf<BucketTable<W>, N>>(
     bucket: u16,
     place: u32,
 ) -> Result<(), NotYet>
-    requires range { bucket < (H.eye shelf.old).buckets }
+    requires range { bucket < (H.history shelf.old).buckets }
     requires room { place < MOST_PACKETS }
-    requires packet { IsPacketAt N.packets (H.eye shelf.old).key (H.eye shelf.old).buckets bucket place packet.now }
+    requires packet { IsPacketAt N.packets (H.history shelf.old).key (H.history shelf.old).buckets bucket place packet.now }
     ensures home { H.home shelf.new ≡ H.home shelf.old }
-    ensures eye { MatchResult result
-        (λ _. H.eye shelf.new ≡ released bucket (place + 1) (claimed bucket place (H.eye shelf.old)))
-        (λ e. H.eye shelf.new ≡ saw bucket e.word (H.eye shelf.old)) }
+    ensures history { MatchResult result
+        (λ _. H.history shelf.new ≡ released bucket (place + 1) (claimed bucket place (H.history shelf.old)))
+        (λ e. H.history shelf.new ≡ saw bucket e.word (H.history shelf.old)) }
 {
     let mut table = shelf.claim(bucket, place)?;
     table.begin_custody(0);

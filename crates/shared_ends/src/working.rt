@@ -5,7 +5,7 @@ ghost use Rattle.packet_pool.specs.Facts.{facts};
 ghost use Rattle.core_queue.specs.declared.item.Seen.TheVariants.{Packet};
 ghost use Rattle.core_queue.specs.Cells.{IsCarried};
 ghost use Rattle.core_queue.specs.RuledLane.{HasEnd};
-ghost use Rattle.load_meter.specs.LoadEye.{noted_at};
+ghost use Rattle.load_meter.specs.LoadHistory.{noted_at};
 ghost use Rattle.shared_ends.specs.Packets.{IsPacketAt};
 ghost use Rattle.shared_ends.specs.Sides.{IsAt, SameRun, stretches};
 
@@ -47,9 +47,9 @@ fn take_all<R: Wait, N: RunName, L: LaneIn<N>, P: Pool>(
     bucket: u16,
 ) -> Option<PacketInfo>
     ensures homes { (L.home lane.new ≡ L.home lane.old) × (P.home pool.new ≡ P.home pool.old) }
-    ensures run { SameRun (L.eye lane.old) (L.eye lane.new) }
-    ensures ended { HasEnd (L.eye lane.new).taken }
-    ensures packet { IfSome result (IsPacketAt N.packets (L.eye lane.old).key (L.eye lane.old).buckets bucket 0) }
+    ensures run { SameRun (L.history lane.old) (L.history lane.new) }
+    ensures ended { HasEnd (L.history lane.new).taken }
+    ensures packet { IfSome result (IsPacketAt N.packets (L.history lane.old).key (L.history lane.old).buckets bucket 0) }
 {
     let mut first = None;
     for _ in rt.forever() {
@@ -73,13 +73,13 @@ fn work_first<W: FlowWork, N: RunName, H: Shelf<BucketTable<W>, N>>(
     packet: Option<PacketInfo>,
     bucket: u16,
 ) -> u64
-    requires range { bucket < (H.eye shelf.old).buckets }
-    requires free { (H.eye shelf.old).held ≡ [] }
-    requires packet { IfSome packet (IsPacketAt N.packets (H.eye shelf.old).key (H.eye shelf.old).buckets bucket 0) }
+    requires range { bucket < (H.history shelf.old).buckets }
+    requires free { (H.history shelf.old).held ≡ [] }
+    requires packet { IfSome packet (IsPacketAt N.packets (H.history shelf.old).key (H.history shelf.old).buckets bucket 0) }
     ensures home { H.home shelf.new ≡ H.home shelf.old }
-    ensures run { ((H.eye shelf.new).key ≡ (H.eye shelf.old).key) × ((H.eye shelf.new).buckets ≡ (H.eye shelf.old).buckets) × ((H.eye shelf.new).shares ≡ (H.eye shelf.old).shares) }
-    ensures free { (H.eye shelf.new).held ≡ [] }
-    ensures ended { (H.eye shelf.new).ended ≡ stretches bucket result ++ (H.eye shelf.old).ended }
+    ensures run { ((H.history shelf.new).key ≡ (H.history shelf.old).key) × ((H.history shelf.new).buckets ≡ (H.history shelf.old).buckets) × ((H.history shelf.new).shares ≡ (H.history shelf.old).shares) }
+    ensures free { (H.history shelf.new).held ≡ [] }
+    ensures ended { (H.history shelf.new).ended ≡ stretches bucket result ++ (H.history shelf.old).ended }
 {
     let Some(packet) = packet else {
         return 0;
@@ -105,12 +105,12 @@ pub(crate) fn works<R: Wait, W: FlowWork, N: RunName>(
 ) -> (Side<TakerPass, BucketTable<W>>, u64)
     requires at { IsAt lane.now shelf.now pool.now meter.now side }
     requires range { (bucket < shelf.now.run.buckets) × (core < meter.now.cores) }
-    requires none { noted_at core side.load.eye ≡ 0 }
+    requires none { noted_at core side.load.history ≡ 0 }
     ensures at { IsAt lane.now shelf.now pool.now meter.now result.0 }
-    ensures shares { result.0.seat.eye.shares ≡ side.seat.eye.shares }
-    ensures whole { HasEnd result.0.lane.eye.taken }
-    ensures ended { result.0.seat.eye.ended ≡ stretches bucket result.1 ++ side.seat.eye.ended }
-    ensures noted { noted_at core result.0.load.eye ≡ result.1 }
+    ensures shares { result.0.seat.history.shares ≡ side.seat.history.shares }
+    ensures whole { HasEnd result.0.lane.history.taken }
+    ensures ended { result.0.seat.history.ended ≡ stretches bucket result.1 ++ side.seat.history.ended }
+    ensures noted { noted_at core result.0.load.history ≡ result.1 }
 {
     let Side {
         lane: pass,

@@ -5,7 +5,7 @@ ghost use Rattle.atomic_table.specs.Seated.{TableId};
 ghost use Rattle.std.specs.Prelude.{ℕ};
 ghost use Rattle.dispatch_loop.specs.Accepted.{IsAccepted};
 ghost use Rattle.dispatch_loop.specs.Terms.{terms_of};
-ghost use Rattle.worker_loop.specs.Job.{run_of};
+ghost use Rattle.toeplitz.specs.Bucket.{bucket_hash};
 ghost use Rattle.sweep_tests.specs.Opening.{IsForWorker, IsForDispatcher};
 
 use bucket_table::{BucketTable, FLOW_HASH_KEY_BYTES, FlowHashKey};
@@ -78,8 +78,8 @@ pub(crate) fn open<W: FlowWork + Drop, N: RunName + Drop, R: Wait>(
     requires accepted { IsAccepted options.now }
     requires cores { options.now.cores ≡ 2 }
     ensures own { IfOk result (λ r. IsForDispatcher (terms_of W.cost_of options.now) r.shared.first r.shared.second r.shared.shelf r.shared.pool r.shared.meter r.own.first r.own.second r.own.seat r.own.cells r.own.load) }
-    ensures first { IfOk result (λ r. IsForWorker 0 (run_of options.now.key (length options.now.start.owners)) r.shared.first r.shared.shelf r.shared.pool r.shared.meter r.first.taker r.first.seat r.first.cells r.first.load) }
-    ensures second { IfOk result (λ r. IsForWorker 1 (run_of options.now.key (length options.now.start.owners)) r.shared.second r.shared.shelf r.shared.pool r.shared.meter r.second.taker r.second.seat r.second.cells r.second.load) }
+    ensures first { IfOk result (λ r. IsForWorker 0 (bucket_hash options.now.key (length options.now.start.owners)) r.shared.first r.shared.shelf r.shared.pool r.shared.meter r.first.taker r.first.seat r.first.cells r.first.load) }
+    ensures second { IfOk result (λ r. IsForWorker 1 (bucket_hash options.now.key (length options.now.start.owners)) r.shared.second r.shared.shelf r.shared.pool r.shared.meter r.second.taker r.second.seat r.second.cells r.second.load) }
 {
     let buckets = options.start.buckets();
     let key = &options.key;

@@ -3,12 +3,12 @@ ghost use Rattle.std.specs.Prelude.{◌≡◌, [], ◌∷◌, length, Some, IfOk
 ghost use Rattle.dispatch_loop.specs.Accepted.{IsAccepted};
 ghost use Rattle.dispatch_loop.specs.Past.{AreNamed};
 ghost use Rattle.dispatch_loop.specs.Terms.{terms_of};
-ghost use Rattle.worker_loop.specs.Job.{run_of};
+ghost use Rattle.toeplitz.specs.Bucket.{bucket_hash};
 ghost use Rattle.sweep_tests.specs.Opening.{IsForWorker, IsForDispatcher};
 
-use crate::desk::Desk;
+use crate::dispatcher_party::DispatcherParty;
 use crate::opening::{ForDispatcher, ForWorker, Shared};
-use crate::station::Station;
+use crate::worker_party::WorkerParty;
 use core_queue::{RuledLane, SenderEnd};
 use dispatch_loop::{Dispatcher, Options, policy_of};
 use flow_work::FlowWork;
@@ -21,7 +21,7 @@ use std::test::Fail;
 use worker_loop::Worker;
 
 /// A new worker at its ends.
-pub(crate) fn station<'a, W: FlowWork + Drop, N: RunName + Drop, R: Wait>(
+pub(crate) fn worker_party<'a, W: FlowWork + Drop, N: RunName + Drop, R: Wait>(
     rt: &'a R,
     alloc: Global,
     core: u8,
@@ -29,8 +29,8 @@ pub(crate) fn station<'a, W: FlowWork + Drop, N: RunName + Drop, R: Wait>(
     lane: &'a RuledLane<N>,
     shared: &'a Shared<W, N>,
     passes: ForWorker<W>,
-) -> Result<Station<'a, W, N, R>, NoMemory>
-    requires { IsForWorker core (run_of options.now.key (length options.now.start.owners)) lane.now shared.now.shelf shared.now.pool shared.now.meter passes.taker passes.seat passes.cells passes.load }
+) -> Result<WorkerParty<'a, W, N, R>, NoMemory>
+    requires { IsForWorker core (bucket_hash options.now.key (length options.now.start.owners)) lane.now shared.now.shelf shared.now.pool shared.now.meter passes.taker passes.seat passes.cells passes.load }
 {
     let ForWorker {
         taker,
@@ -39,7 +39,7 @@ pub(crate) fn station<'a, W: FlowWork + Drop, N: RunName + Drop, R: Wait>(
         load,
     } = passes;
     let worker = Worker::new(alloc, core, &options.key, options.start.buckets())?;
-    Ok(Station {
+    Ok(WorkerParty {
         worker,
         lane: lane.taker(rt, taker),
         shelf: shared.shelf.end(seat),
@@ -65,14 +65,14 @@ fn senders<'a, N: RunName + Drop, R>(
 }
 
 /// A new dispatcher at its ends, at the beginning of a capture.
-pub(crate) fn desk<'a, W: FlowWork + Drop, N: RunName + Drop, R: Wait>(
+pub(crate) fn dispatcher_party<'a, W: FlowWork + Drop, N: RunName + Drop, R: Wait>(
     rt: &'a R,
     alloc: Global,
     options: &Options,
     bytes: Vec<u8>,
     shared: &'a Shared<W, N>,
     passes: ForDispatcher<W>,
-) -> Result<Desk<'a, W, N, R>, Fail>
+) -> Result<DispatcherParty<'a, W, N, R>, Fail>
     requires accepted { IsAccepted options.now }
     requires cores { options.now.cores ≡ 2 }
     requires named { AreNamed N.packets options.now.packets (Some bytes.items) }
@@ -92,7 +92,7 @@ pub(crate) fn desk<'a, W: FlowWork + Drop, N: RunName + Drop, R: Wait>(
     let first_end = shared.first.sender(rt, first);
     let second_end = shared.second.sender(rt, second);
     let lanes = senders(alloc, first_end, second_end)?;
-    Ok(Desk {
+    Ok(DispatcherParty {
         dispatcher,
         reader,
         source,

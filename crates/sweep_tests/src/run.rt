@@ -4,7 +4,7 @@ ghost use Rattle.dispatch_loop.specs.Accepted.{IsAccepted};
 ghost use Rattle.dispatch_loop.specs.Past.{AreNamed};
 
 use crate::opening::{Opened, open};
-use crate::parties::{desk, station};
+use crate::parties::{dispatcher_party, worker_party};
 use crate::sweeps::Parties;
 use balancer::Balancer;
 use bucket_table::BucketTable;
@@ -36,11 +36,11 @@ fn left<'a, W: FlowWork + Drop, N: RunName + Drop, R: Wait>(
     done: u32,
 ) -> Ran<W> {
     let Parties {
-        desk,
+        dispatcher_party,
         first,
         second,
     } = parties;
-    let (dispatcher, table) = desk.leave(0, done);
+    let (dispatcher, table) = dispatcher_party.leave(0, done);
     Ran {
         end,
         dispatcher,
@@ -70,9 +70,9 @@ pub(crate) fn run<W: FlowWork + Drop, N: RunName + Drop, R: Wait>(
         second,
     } = open::<W, N, R>(rt, alloc, options)?;
     let mut parties = Parties {
-        desk: desk(rt, alloc, options, bytes, &shared, own)?,
-        first: station(rt, alloc, 0, options, &shared.first, &shared, first)?,
-        second: station(rt, alloc, 1, options, &shared.second, &shared, second)?,
+        dispatcher_party: dispatcher_party(rt, alloc, options, bytes, &shared, own)?,
+        first: worker_party(rt, alloc, 0, options, &shared.first, &shared, first)?,
+        second: worker_party(rt, alloc, 1, options, &shared.second, &shared, second)?,
     };
     let end = parties.run(number, work, 1_000);
     Ok(left(parties, end, options.packets))

@@ -1,6 +1,6 @@
 // Sweeps over a dispatcher and two workers, each with ends of its own.
-use crate::desk::Desk;
-use crate::station::Station;
+use crate::dispatcher_party::DispatcherParty;
+use crate::worker_party::WorkerParty;
 use dispatch_loop::{DispatcherEnd, DispatcherTurn};
 use flow_work::FlowWork;
 use packet_fields::RunName;
@@ -24,16 +24,16 @@ fn finished(turn: DispatcherTurn) -> Option<DispatcherEnd> {
 /// The dispatcher and the workers of the cores 0 and 1.
 #[derive(Drop)]
 pub(crate) struct Parties<'a, W: FlowWork, N: RunName, R> {
-    pub(crate) desk: Desk<'a, W, N, R>,
-    pub(crate) first: Station<'a, W, N, R>,
-    pub(crate) second: Station<'a, W, N, R>,
+    pub(crate) dispatcher_party: DispatcherParty<'a, W, N, R>,
+    pub(crate) first: WorkerParty<'a, W, N, R>,
+    pub(crate) second: WorkerParty<'a, W, N, R>,
 }
 
 impl<'a, W: FlowWork + Drop, N: RunName + Drop, R: Wait> Parties<'a, W, N, R> {
     // The turn of a party: party 0 is the dispatcher, and party c + 1 is the worker of core c.
     fn give_turn(&mut self, party: u32, work: &W, swept: &mut Swept) {
         if party == 0 {
-            swept.end = finished(self.desk.turn(work));
+            swept.end = finished(self.dispatcher_party.turn(work));
             return;
         }
         let turn = if party == 1 {

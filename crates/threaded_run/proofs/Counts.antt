@@ -1,5 +1,5 @@
 -- How many packets stand in the stream of a core.
-use Rattle.std.proofs.Common.{◌≡◌, ℕ, zero, suc, ◌+◌, ◌≤◌, if◌then◌else◌, Bool, List, [], ◌∷◌, ◌++◌, length, map, count_by, refl, sym, ap, ◌∙◌, arith}
+use Rattle.std.proofs.Common.{◌≡◌, ℕ, zero, suc, ◌+◌, ◌≤◌, if◌then◌else◌, Bool, List, [], ◌∷◌, ◌++◌, length, map, count_by, refl, ap, arith}
 use Rattle.std.proofs.lemmas.List.Sums.{sum_by-cons, count_by-le-length}
 use Rattle.indirection.proofs.Tests.{by_test}
 use Rattle.indirection.proofs.Told.{parcels_of-told}
@@ -8,12 +8,12 @@ use Rattle.indirection.specs.declared.outcome.Outcome.TheVariants.{Moved, Placed
 use Rattle.indirection.specs.Each.{gather_from}
 use Rattle.indirection.specs.JournalView.{JournalView}
 use Rattle.indirection.specs.Tries.{ask_bucket}
-use Rattle.indirection.specs.Story.{Parcel, Step, Rounds, Tries, Sends, told, parcels_of}
+use Rattle.indirection.specs.Story.{Parcel, Step, Rounds, Tries, Sends, told, parcels_of, owner_then}
 use Rattle.handover_core.specs.declared.item.Kind.{Kind}
 use Rattle.handover_core.specs.declared.item.Kind.TheVariants.{First, Next, Mark}
 use Rattle.handover_core.specs.declared.item.Item.TheVariants.{Of, End}
 use Rattle.handover_core.specs.declared.post.Post.{Post}
-use Rattle.handover_core.specs.Dispatch.{stream, ends, posts, mark_posts, dispatches, owner_then}
+use Rattle.handover_core.specs.Dispatch.{stream, ends, posts, mark_posts, dispatches}
 use Rattle.core_queue.specs.declared.item.Seen.{Seen}
 use Rattle.core_queue.specs.declared.item.Seen.TheVariants.{Packet, Close}
 use Rattle.core_queue.specs.Cells.{plain}

@@ -3,7 +3,7 @@ pub mod Notes
 pub mod Lists
 pub mod Cores
 pub mod Ends
-pub mod NewPosts
+pub mod NewParties
 pub mod Closings
 pub mod Starting
 pub mod Runs

@@ -7,13 +7,12 @@ use Rattle.toeplitz.specs.declared.key.Key.{Key}
 use Rattle.core_queue.specs.RuledLane.{SharedLane, AtLane}
 use Rattle.packet_pool.specs.RuledPool as pools
 use Rattle.packet_pool.specs.RuledPool.{SharedPool, AtPool, IsNewPool, pass_with}
-use Rattle.handover_words.specs.ShelfEye.{fresh}
+use Rattle.handover_words.specs.ShelfHistory.{fresh}
 use Rattle.handover_words.specs.WordShelf.{SharedShelf, AtShelf, IsNewShelf}
-use Rattle.load_meter.specs.LoadEye as loads
 use Rattle.load_meter.specs.Meter.{SharedMeter, AtMeter, IsNewMeter}
 use Rattle.dispatch_loop.specs.OptionsView.{OptionsView}
 use Rattle.threaded_run.specs.Opening.{IsShared}
-use Rattle.threaded_run.specs.Parties.{new_passes}
+use Rattle.threaded_run.specs.PartyLists.{new_passes}
 use Rattle.threaded_run.proofs.Lists.{front_at, last_at, each_snoc}
 
 copied : {A : Type 0} (x y : A) (n i : ℕ) → slice_get (replicate n x) i ≡ Some y → y ≡ x
@@ -41,7 +40,7 @@ shared_is o key buckets ends lanes shelf pool meter senders takers passes rest o
       senders_are = sends ∙ (λ i. new_passes (of_key i) (of_buckets i) lanes);
       takers_are = takes ∙ (λ i. new_passes (of_key i) (of_buckets i) lanes);
       run = on_shelf.run ∙ (λ i. record { key = of_key i; buckets = of_buckets i; ends = of_ends i });
-      seat_is = on_shelf.seated ∙ (λ i. record { home = shelf.home; eye = fresh (of_key i) (of_buckets i) (of_ends i) });
+      seat_is = on_shelf.seated ∙ (λ i. record { home = shelf.home; history = fresh (of_key i) (of_buckets i) (of_ends i) });
       cells_many = omega arith;
       cells_are = λ i q at. home i q (front_at passes rest own q i split at);
       own = home (length rest) own (last_at passes rest own (length rest) split refl);

@@ -1,4 +1,6 @@
+-- Read Threaded, which contracts speak of. Opening, Parties and PartyLists serve proofs of bodies
+-- alone.
 pub mod Threaded
-pub mod Parties
+pub mod PartyLists
 pub mod Opening
-pub mod Crew
+pub mod Parties

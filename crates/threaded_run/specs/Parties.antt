@@ -1,65 +1,56 @@
--- The parties of a run at their start and at their end, list by list.
-use Rattle.std.specs.Prelude.{◌≡◌, ℕ, List, [], map, Some, slice_get}
-use Rattle.std.specs.List.{flat_map}
-use Rattle.toeplitz.specs.declared.key.Key.{Key}
-use Rattle.core_queue.specs.declared.item.Seen.{Seen}
-use Rattle.core_queue.specs.NewEye.{new_eye}
-use Rattle.core_queue.specs.RuledLane.{SharedLane, AtLane, Noted, HasEnd}
-use Rattle.handover_words.specs.declared.eye.Stretch.{Stretch}
-use Rattle.handover_words.specs.declared.eye.ShelfEye.{ShelfEye}
-use Rattle.handover_words.specs.WordShelf.{SharedShelf, AtShelf}
-use Rattle.run_shifts.specs.declared.post.Post.{Post}
+-- The parties of a run, before their first shift and behind their last one.
+use Rattle.std.specs.Prelude.{◌≡◌, ℕ, ◌+◌, List, length, Option}
+use Rattle.packet_fields.specs.declared.packet.PacketInfo.{PacketInfo}
+use Rattle.pcap_reader.specs.Reading.{Reading}
+use Rattle.bucket_table.specs.Table.{TableOf}
+use Rattle.packet_pool.specs.RuledPool.{AtPool}
+use Rattle.core_queue.specs.declared.history.LaneHistory.{LaneHistory}
+use Rattle.core_queue.specs.RuledLane.{AtLane}
+use Rattle.handover_words.specs.declared.history.ShelfHistory.{ShelfHistory}
+use Rattle.handover_words.specs.WordShelf.{AtShelf}
+use Rattle.load_meter.specs.declared.history.LoadHistory.{LoadHistory}
+use Rattle.load_meter.specs.Meter.{AtMeter}
+use Rattle.worker_loop.specs.WorkerState.{WorkerView}
+use Rattle.worker_loop.specs.Workload.{Workload}
+use Rattle.dispatch_loop.specs.declared.dispatcher_end.DispatcherEnd.{DispatcherEnd}
+use Rattle.dispatch_loop.specs.DispatcherState.{DispatcherState}
+use Rattle.dispatch_loop.specs.Fresh.{fresh_dispatcher_state}
+use Rattle.dispatch_loop.specs.Past.{past}
+use Rattle.dispatch_loop.specs.Terms.{Terms, cores_of, buckets_of}
+use Rattle.dispatch_loop.specs.Tied.{Tied}
+use Rattle.run_shifts.specs.DispatcherTurns.{HasFinished}
+use Rattle.run_shifts.specs.Parties.{SharedView}
+use Rattle.run_shifts.specs.WorkerParties.{AreWorkerParties}
+use Rattle.run_shifts.specs.declared.worker_party.WorkerParty.{WorkerParty}
+use Rattle.threaded_run.specs.PartyLists.{new_passes, IsFreeSeat, AreOfLanes}
 
--- a pass of a lane on which nothing was sent
-abbrev pub new_pass : Key → ℕ → SharedLane → AtLane
-new_pass key buckets lane = record { home = lane.home; eye = new_eye key buckets }
+-- a dispatcher on these terms that did nothing yet, with the passes and seats of its ends, and a worker's party for each core
+pub record AreParties {S : Type 0} (j : Workload S) (t : Terms) (place : SharedView) (dispatcher : DispatcherState) (senders : List AtLane) (seat : AtShelf) (load : AtMeter) (cells : AtPool) (worker_parties : List (WorkerParty (WorkerView (TableOf S)) (TableOf S))) : Type 0 where
+  pub fresh : dispatcher ≡ fresh_dispatcher_state t
+  pub lanes : length place.lanes ≡ cores_of t
+  pub senders_are : senders ≡ new_passes t.key (buckets_of t) place.lanes
+  pub run : place.shelf.run ≡ record { key = t.key; buckets = buckets_of t; ends = cores_of t + 1 }
+  pub seat_is : IsFreeSeat place.shelf seat
+  pub share : seat.history.shares ≡ 1
+  pub load_home : load.home ≡ place.meter.home
+  pub load_cores : load.history.cores ≡ cores_of t
+  pub cells_home : cells.home ≡ place.pool.home
+  pub worker_parties_are : AreWorkerParties j place worker_parties
+  pub worker_parties_many : length worker_parties ≡ cores_of t
 
-abbrev pub new_passes : Key → ℕ → List SharedLane → List AtLane
-new_passes key buckets lanes = map (new_pass key buckets) lanes
+-- the passes of the lanes and the dispatcher's seat, as they come back: of the same objects, and the seat ended nothing
+pub record IsBack (place : SharedView) (senders : List AtLane) (seat : AtShelf) (senders' : List AtLane) (seat' : AtShelf) : Type 0 where
+  pub many : length senders' ≡ length senders
+  pub lanes : AreOfLanes place.lanes senders'
+  pub seat_is : IsFreeSeat place.shelf seat'
+  pub share : seat'.history.shares ≡ seat.history.shares
 
--- the passes are of these lanes, lane by lane
-abbrev pub AreOfLanes : List SharedLane → List AtLane → Type 0
-AreOfLanes lanes passes = map (λ (p : AtLane). p.home) passes ≡ map (λ (l : SharedLane). l.home) lanes
-
--- a seat of the shelf that holds nothing and knows of no custody
-pub record IsFreeSeat (shelf : SharedShelf) (seat : AtShelf) : Type 0 where
-  pub home : seat.home ≡ shelf.home
-  pub key : seat.eye.key ≡ shelf.run.key
-  pub buckets : seat.eye.buckets ≡ shelf.run.buckets
-  pub held : seat.eye.held ≡ []
-  pub ended : seat.eye.ended ≡ []
-
--- what the passes of senders know to be sent, and what notes say was sent and taken
-abbrev pub sent_by : List AtLane → List (List Seen)
-sent_by passes = map (λ (p : AtLane). p.eye.sent) passes
-
-abbrev pub sent_in : List Noted → List (List Seen)
-sent_in notes = map (λ (n : Noted). n.sent) notes
-
-abbrev pub taken_in : List Noted → List (List Seen)
-taken_in notes = map (λ (n : Noted). n.taken) notes
-
-module _ {K T : Type 0} where
-  -- what of each post is its worker, what its lane's end took, and the custodies that its seat ended
-  abbrev pub worker_in : Post K T → K
-  worker_in p = p.worker
-
-  abbrev pub taken_at : Post K T → List Seen
-  taken_at p = p.taker.eye.taken
-
-  abbrev pub ended_at : Post K T → List Stretch
-  ended_at p = p.seat.eye.ended
-
-  -- what is left of a core that has ended: the two passes of its lane, on which End was taken, and a seat that has one share and holds nothing
-  pub record IsLeft (shelf : SharedShelf) (lane : SharedLane) (sender : AtLane) (p : Post K T) : Type 0 where
-    pub sends : sender.home ≡ lane.home
-    pub takes : p.taker.home ≡ lane.home
-    pub closed : HasEnd p.taker.eye.taken
-    pub seat : p.seat.home ≡ shelf.home
-    pub share : p.seat.eye.shares ≡ 1
-    pub free : p.seat.eye.held ≡ []
-
-  -- core by core
-  abbrev pub AreLeft : SharedShelf → List SharedLane → List AtLane → List (Post K T) → Type 0
-  AreLeft shelf lanes senders posts =
-      (c : ℕ) (l : SharedLane) (s : AtLane) (p : Post K T) → slice_get lanes c ≡ Some l → slice_get senders c ≡ Some s → slice_get posts c ≡ Some p → IsLeft shelf l s p
+-- the dispatcher has finished on these terms, and is tied to the packets that it sent, and to its lanes
+pub record HasRun (packets : Option (List PacketInfo)) (t : Terms) (bytes : Option (List ℕ)) (end : DispatcherEnd) (f : DispatcherState) (lanes : List LaneHistory) (left : Option (List ℕ)) : Type 0 where
+  pub terms : f.terms ≡ t
+  pub finished : HasFinished end f
+  pub sent : List PacketInfo
+  pub shelf : ShelfHistory
+  pub meter : LoadHistory
+  pub reader : Reading
+  pub tied : Tied packets (past bytes sent) f lanes shelf meter reader left

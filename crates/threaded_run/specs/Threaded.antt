@@ -10,8 +10,8 @@ use Rattle.handover_core.specs.declared.item.Item.{Item}
 use Rattle.handover_core.specs.Dispatch.{dispatches, stream}
 use Rattle.core_queue.specs.Cells.{plain}
 use Rattle.core_queue.specs.RuledLane.{Noted}
-use Rattle.handover_words.specs.declared.eye.Stretch.{Stretch}
-use Rattle.handover_words.specs.History.{history}
+use Rattle.handover_words.specs.declared.history.Stretch.{Stretch}
+use Rattle.handover_words.specs.SortedSpans.{sorted_spans}
 use Rattle.worker_loop.specs.Schedule.{is_packet}
 use Rattle.dispatch_loop.specs.Past.{parcels}
 use Rattle.dispatch_loop.specs.Terms.{Terms, cores_of, buckets_of, rules_of}
@@ -48,6 +48,6 @@ pub record IsThreadedRun (t : Terms) (all : List PacketInfo) (journal : JournalS
   pub taken : all_taken notes ≡ streams t all journal
   pub ended : List Stretch
   pub shelf_is : shelf ≡ Some ended
-  pub custodies : (b : ℕ) → b < buckets_of t → reverse (history b ended) ≡ map stint_span (stints_in t all journal b)
+  pub custodies : (b : ℕ) → b < buckets_of t → reverse (sorted_spans b ended) ≡ map stint_span (stints_in t all journal b)
   pub custody_is : custody ≡ custody_upto (stints_in t all journal) (buckets_of t)
   pub worked_is : worked ≡ packets_for (streams t all journal)

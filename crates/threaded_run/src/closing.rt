@@ -2,53 +2,53 @@
 ghost use Rattle.std.specs.Prelude.{◌≡◌, ◌+◌, ◌<◌, ◌≤◌, [], ◌∷◌, ◌++◌, map, length, vec_capacity, IfSome, IfNone};
 ghost use Rattle.std.specs.List.{flat_map};
 ghost use Rattle.core_queue.specs.RuledLane.{Noted, HasEnd};
-ghost use Rattle.handover_words.specs.declared.eye.ShelfEye.{ShelfEye};
+ghost use Rattle.handover_words.specs.declared.history.ShelfHistory.{ShelfHistory};
 ghost use Rattle.handover_words.specs.ShelfSteps.{joined};
 ghost use Rattle.handover_words.specs.Stands.{IsTableOf};
 ghost use Rattle.handover_words.specs.WordShelf.{ClosesShelf};
-ghost use Rattle.worker_loop.specs.Job.{job};
-ghost use Rattle.run_shifts.specs.Posts.{ArePosts, HaveEnded};
-ghost use Rattle.threaded_run.specs.Parties.{IsLeft, AreLeft, AreOfLanes, sent_by, sent_in, taken_in, worker_in, taken_at, ended_at};
+ghost use Rattle.worker_loop.specs.Workload.{workload};
+ghost use Rattle.run_shifts.specs.WorkerParties.{AreWorkerParties, HaveEnded};
+ghost use Rattle.threaded_run.specs.PartyLists.{IsLeft, AreLeft, AreOfLanes, sent_by, sent_in, taken_in, worker_in, taken_at, ended_at};
 
 use bucket_table::BucketTable;
 use core_queue::{LaneNote, RuledLane, SenderPass, TakerPass};
 use flow_work::FlowWork;
 use handover_words::{ShelfNote, ShelfSeat, WordShelf};
 use packet_fields::RunName;
-use run_shifts::{Floor, Post};
+use run_shifts::{SharedObjects, WorkerParty};
 use worker_loop::Worker;
 
 // Closes a lane of which all that was sent was taken.
 fn close_lane<N: RunName>(lane: RuledLane<N>, sender: SenderPass, taker: TakerPass) -> LaneNote
     requires sender { sender.home ≡ lane.home }
     requires taker { taker.home ≡ lane.home }
-    requires closed { HasEnd taker.eye.taken }
-    ensures note { (result.sent ≡ sender.eye.sent) × (result.taken ≡ sender.eye.sent) }
-    ensures took { taker.eye.taken ≡ sender.eye.sent }
+    requires closed { HasEnd taker.history.taken }
+    ensures note { (result.sent ≡ sender.history.sent) × (result.taken ≡ sender.history.sent) }
+    ensures took { taker.history.taken ≡ sender.history.sent }
 {
     lane.close(sender, taker)
 }
 
-// Closes the lane of one core, and joins its post's seat to the one that is handed in.
+// Closes the lane of one core, and joins its party's seat to the one that is handed in.
 fn close_one<W: FlowWork + Drop, N: RunName + Drop>(
     shelf: &WordShelf<BucketTable<W>, N>,
     lane: RuledLane<N>,
     sender: SenderPass,
-    post: Post<Worker<W>, BucketTable<W>>,
+    worker_party: WorkerParty<Worker<W>, BucketTable<W>>,
     seat: &mut ShelfSeat<BucketTable<W>>,
     notes: &mut Vec<LaneNote>,
     workers: &mut Vec<Worker<W>>,
 )
-    requires left { IsLeft shelf.now lane sender post }
+    requires left { IsLeft shelf.now lane sender worker_party }
     requires seat { seat.old.home ≡ shelf.now.home }
     requires room { (length notes.old.items < vec_capacity notes.old) × (length workers.old.items < vec_capacity workers.old) }
-    ensures notes { (n : Noted) × (notes.new.items ≡ notes.old.items ++ n ∷ []) × (n.sent ≡ sender.eye.sent) × (n.taken ≡ sender.eye.sent) }
-    ensures took { post.taker.eye.taken ≡ sender.eye.sent }
-    ensures workers { workers.new.items ≡ workers.old.items ++ post.worker ∷ [] }
+    ensures notes { (n : Noted) × (notes.new.items ≡ notes.old.items ++ n ∷ []) × (n.sent ≡ sender.history.sent) × (n.taken ≡ sender.history.sent) }
+    ensures took { worker_party.taker.history.taken ≡ sender.history.sent }
+    ensures workers { workers.new.items ≡ workers.old.items ++ worker_party.worker ∷ [] }
     ensures capacity { (vec_capacity notes.new ≡ vec_capacity notes.old) × (vec_capacity workers.new ≡ vec_capacity workers.old) }
-    ensures seat { seat.new ≡ record { home = shelf.now.home; eye = joined seat.old.eye post.seat.eye } }
+    ensures seat { seat.new ≡ record { home = shelf.now.home; history = joined seat.old.history worker_party.seat.history } }
 {
-    let Post {
+    let WorkerParty {
         core: _,
         worker,
         taker,
@@ -56,7 +56,7 @@ fn close_one<W: FlowWork + Drop, N: RunName + Drop>(
         load: _,
         cells: _,
         ended: _,
-    } = post;
+    } = worker_party;
     shelf.join(seat, other);
     notes.push_reserved(close_lane(lane, sender, taker));
     workers.push_reserved(worker);
@@ -78,37 +78,41 @@ fn last_three<A: Drop, B: Drop, C: Drop>(
     Some((x, y, z))
 }
 
-/// Closes the lane of each core, in the order of cores, and joins the posts' seats to the one that
+/// Closes the lane of each core, in the order of cores, and joins the parties' seats to the one that
 /// is handed in. Each lane gets its note, and its worker is kept.
 pub(crate) fn close_all<W: FlowWork + Drop, N: RunName + Drop>(
     shelf: &WordShelf<BucketTable<W>, N>,
     mut lanes: Vec<RuledLane<N>>,
     mut senders: Vec<SenderPass>,
-    mut posts: Vec<Post<Worker<W>, BucketTable<W>>>,
+    mut worker_parties: Vec<WorkerParty<Worker<W>, BucketTable<W>>>,
     seat: &mut ShelfSeat<BucketTable<W>>,
     notes: &mut Vec<LaneNote>,
     workers: &mut Vec<Worker<W>>,
 )
-    requires counts { (length senders.items ≡ length lanes.items) × (length posts.items ≡ length lanes.items) }
-    requires left { AreLeft shelf.now lanes.items senders.items posts.items }
-    requires seat { (seat.old.home ≡ shelf.now.home) × (seat.old.eye.held ≡ []) }
+    requires counts { (length senders.items ≡ length lanes.items) × (length worker_parties.items ≡ length lanes.items) }
+    requires left { AreLeft shelf.now lanes.items senders.items worker_parties.items }
+    requires seat { (seat.old.home ≡ shelf.now.home) × (seat.old.history.held ≡ []) }
     requires notes { (notes.old.items ≡ []) × (length lanes.items ≤ vec_capacity notes.old) }
     requires workers { (workers.old.items ≡ []) × (length lanes.items ≤ vec_capacity workers.old) }
     ensures sent { sent_in notes.new.items ≡ sent_by senders.items }
     ensures taken { taken_in notes.new.items ≡ sent_by senders.items }
-    ensures took { map taken_at posts.items ≡ sent_by senders.items }
-    ensures workers { workers.new.items ≡ map worker_in posts.items }
+    ensures took { map taken_at worker_parties.items ≡ sent_by senders.items }
+    ensures workers { workers.new.items ≡ map worker_in worker_parties.items }
     ensures capacity { (vec_capacity notes.new ≡ vec_capacity notes.old) × (vec_capacity workers.new ≡ vec_capacity workers.old) }
-    ensures seat { (seat.new.home ≡ shelf.now.home) × (seat.new.eye.held ≡ []) }
-    ensures run { (seat.new.eye.key ≡ seat.old.eye.key) × (seat.new.eye.buckets ≡ seat.old.eye.buckets) }
-    ensures shares { seat.new.eye.shares ≡ seat.old.eye.shares + length posts.items }
-    ensures ended { seat.new.eye.ended ≡ seat.old.eye.ended ++ flat_map ended_at posts.items }
+    ensures seat { (seat.new.home ≡ shelf.now.home) × (seat.new.history.held ≡ []) }
+    ensures run { (seat.new.history.key ≡ seat.old.history.key) × (seat.new.history.buckets ≡ seat.old.history.buckets) }
+    ensures shares { seat.new.history.shares ≡ seat.old.history.shares + length worker_parties.items }
+    ensures ended { seat.new.history.ended ≡ seat.old.history.ended ++ flat_map ended_at worker_parties.items }
 {
-    let Some((lane, sender, post)) = last_three(&mut lanes, &mut senders, &mut posts) else {
+    let Some((lane, sender, worker_party)) = last_three(
+        &mut lanes,
+        &mut senders,
+        &mut worker_parties,
+    ) else {
         return;
     };
-    close_all(shelf, lanes, senders, posts, seat, notes, workers);
-    close_one(shelf, lane, sender, post, seat, notes, workers);
+    close_all(shelf, lanes, senders, worker_parties, seat, notes, workers);
+    close_one(shelf, lane, sender, worker_party, seat, notes, workers);
 }
 
 /// What is left of a run's parties and of what they shared.
@@ -122,41 +126,41 @@ pub(crate) struct Left<W: FlowWork> {
 
 /// Closes what all shared. It takes no memory: the lists have room.
 pub(crate) fn finish<W: FlowWork + Drop, N: RunName + Drop>(
-    floor: Floor<W, N>,
+    shared: SharedObjects<W, N>,
     senders: Vec<SenderPass>,
-    posts: Vec<Post<Worker<W>, BucketTable<W>>>,
+    worker_parties: Vec<WorkerParty<Worker<W>, BucketTable<W>>>,
     mut seat: ShelfSeat<BucketTable<W>>,
     mut notes: Vec<LaneNote>,
     mut workers: Vec<Worker<W>>,
     mut tables: Vec<BucketTable<W>>,
 ) -> Left<W>
-    requires counts { (length senders.items ≡ length floor.lanes) × (length posts.items ≡ length floor.lanes) }
-    requires posts { ArePosts (job W.opening W.after W.cost_of N.packets) floor posts.items }
-    requires ended { HaveEnded posts.items }
-    requires senders { AreOfLanes floor.lanes senders.items }
-    requires seat { (seat.home ≡ floor.shelf.home) × (seat.eye.held ≡ []) × (seat.eye.ended ≡ []) }
-    requires shares { seat.eye.shares + length posts.items ≡ floor.shelf.run.ends }
-    requires notes { (notes.items ≡ []) × (length floor.lanes ≤ vec_capacity notes) }
-    requires workers { (workers.items ≡ []) × (length floor.lanes ≤ vec_capacity workers) }
-    requires tables { (tables.items ≡ []) × (seat.eye.buckets ≤ vec_capacity tables) }
+    requires counts { (length senders.items ≡ length shared.lanes) × (length worker_parties.items ≡ length shared.lanes) }
+    requires worker_parties { AreWorkerParties (workload W.opening W.after W.cost_of N.packets) shared worker_parties.items }
+    requires ended { HaveEnded worker_parties.items }
+    requires senders { AreOfLanes shared.lanes senders.items }
+    requires seat { (seat.home ≡ shared.shelf.home) × (seat.history.held ≡ []) × (seat.history.ended ≡ []) }
+    requires shares { seat.history.shares + length worker_parties.items ≡ shared.shelf.run.ends }
+    requires notes { (notes.items ≡ []) × (length shared.lanes ≤ vec_capacity notes) }
+    requires workers { (workers.items ≡ []) × (length shared.lanes ≤ vec_capacity workers) }
+    requires tables { (tables.items ≡ []) × (seat.history.buckets ≤ vec_capacity tables) }
     ensures sent { sent_in result.notes.items ≡ sent_by senders.items }
     ensures taken { taken_in result.notes.items ≡ sent_by senders.items }
-    ensures took { map taken_at posts.items ≡ sent_by senders.items }
-    ensures workers { result.workers.items ≡ map worker_in posts.items }
-    ensures shelf { result.shelf ≡ flat_map ended_at posts.items }
-    ensures tables { (eye : ShelfEye) × (eye.key ≡ seat.eye.key) × (eye.buckets ≡ seat.eye.buckets) × (eye.ended ≡ result.shelf) × ClosesShelf (IsTableOf W.opening W.after N.packets) eye [] result.tables.items }
+    ensures took { map taken_at worker_parties.items ≡ sent_by senders.items }
+    ensures workers { result.workers.items ≡ map worker_in worker_parties.items }
+    ensures shelf { result.shelf ≡ flat_map ended_at worker_parties.items }
+    ensures tables { (history : ShelfHistory) × (history.key ≡ seat.history.key) × (history.buckets ≡ seat.history.buckets) × (history.ended ≡ result.shelf) × ClosesShelf (IsTableOf W.opening W.after N.packets) history [] result.tables.items }
 {
-    let Floor {
+    let SharedObjects {
         lanes,
         shelf,
         pool: _,
         meter: _,
-    } = floor;
+    } = shared;
     close_all(
         &shelf,
         lanes,
         senders,
-        posts,
+        worker_parties,
         &mut seat,
         &mut notes,
         &mut workers,

@@ -1,6 +1,6 @@
 // The lanes of a run, and the dispatcher's ends of them.
 ghost use Rattle.std.specs.Prelude.{◌≡◌, ◌<◌, ◌≤◌, [], length, vec_capacity, IfOk};
-ghost use Rattle.threaded_run.specs.Parties.{new_passes, AreOfLanes};
+ghost use Rattle.threaded_run.specs.PartyLists.{new_passes, AreOfLanes};
 
 use core_queue::{RuledLane, SenderEnd, SenderPass, TakerPass};
 use packet_fields::RunName;

@@ -5,6 +5,9 @@
 //! `IsThreadedRun` (`specs/Threaded.antt`): the journal is lawful, each core was sent its stream by
 //! that journal and took all of it, and the custodies on the shelf and in the workers' logs are the
 //! stints of that journal. That it returns isn't claimed.
+//!
+//! Read `specs/Threaded.antt`, then `threaded.rt`. The run goes by `parties.rt` (over `opening.rt`,
+//! `lanes.rt` and `rooms.rt`), `closing.rt` and `telling.rt`.
 #![tactic(auto)]
 
 mod closing;

@@ -1,19 +1,19 @@
 // All parties of a run, from their start to their end.
 ghost use Rattle.std.specs.Prelude.{◌≡◌, ◌≤◌, [], length, map, vec_capacity, IfOk, IfErr, Err, Some};
 ghost use Rattle.core_queue.specs.RuledLane.{AtLane};
-ghost use Rattle.worker_loop.specs.Job.{job};
+ghost use Rattle.worker_loop.specs.Workload.{workload};
 ghost use Rattle.dispatch_loop.specs.Accepted.{IsAccepted};
-ghost use Rattle.dispatch_loop.specs.Face.{face_by};
+ghost use Rattle.dispatch_loop.specs.DispatcherState.{dispatcher_state_by};
 ghost use Rattle.dispatch_loop.specs.OptionsView.{OptionsView};
 ghost use Rattle.dispatch_loop.specs.Past.{AreNamed};
 ghost use Rattle.dispatch_loop.specs.Rules.{BlamesRead};
 ghost use Rattle.dispatch_loop.specs.Terms.{terms_of};
 ghost use Rattle.rsspp_run.specs.Refused.{Refuses, Blames};
-ghost use Rattle.run_shifts.specs.Posts.{ArePosts, HaveEnded};
-ghost use Rattle.threaded_run.specs.Crew.{IsCrew, HasRun, IsBack};
+ghost use Rattle.run_shifts.specs.WorkerParties.{AreWorkerParties, HaveEnded};
+ghost use Rattle.threaded_run.specs.Parties.{AreParties, HasRun, IsBack};
 
 use crate::lanes::ends_of;
-use crate::opening::{Shared, open_posts, open_shared};
+use crate::opening::{Shared, open_shared, open_worker_parties};
 use crate::rooms::list_for;
 use balancer::Balancer;
 use bucket_table::{BucketTable, FlowHashKey};
@@ -27,22 +27,22 @@ use packet_pool::PoolPass;
 use pcap_reader::Reader;
 use rss_base::{Gate, NoMemory, Source};
 use rsspp_run::RunFault;
-use run_shifts::{Desk, Floor, Post, run_shifts};
+use run_shifts::{DispatcherParty, SharedObjects, WorkerParty, run_shifts};
 use std::alloc::Global;
 use std::sync::Wait;
 use std::thread::Threads;
 use worker_loop::Worker;
 
 /// The parties of a run before their first shift: the dispatcher with the passes and seats of its
-/// ends, and the post of each core.
+/// ends, and the worker's party of each core.
 #[derive(Drop)]
-pub(crate) struct Crew<W: FlowWork> {
+pub(crate) struct Parties<W: FlowWork> {
     pub(crate) dispatcher: Dispatcher<W, Balancer>,
     pub(crate) senders: Vec<SenderPass>,
     pub(crate) seat: ShelfSeat<BucketTable<W>>,
     pub(crate) load: MeterSeat,
     pub(crate) cells: PoolPass,
-    pub(crate) posts: Vec<Post<Worker<W>, BucketTable<W>>>,
+    pub(crate) worker_parties: Vec<WorkerParty<Worker<W>, BucketTable<W>>>,
 }
 
 /// What all parties share, and the parties.
@@ -51,14 +51,14 @@ pub(crate) fn open<W: FlowWork + Drop, N: RunName + Drop, R: Wait>(
     alloc: Global,
     options: &Options,
     hashing: &FlowHashKey,
-) -> Result<(Floor<W, N>, Crew<W>), NoMemory>
+) -> Result<(SharedObjects<W, N>, Parties<W>), NoMemory>
     requires { IsAccepted options.now }
-    ensures { IfOk result (λ r. IsCrew (job W.opening W.after W.cost_of N.packets) (terms_of W.cost_of options.now) r.0 (face_by W.cost_of r.1.dispatcher) r.1.senders.items r.1.seat r.1.load r.1.cells r.1.posts.items) }
+    ensures { IfOk result (λ r. AreParties (workload W.opening W.after W.cost_of N.packets) (terms_of W.cost_of options.now) r.0 (dispatcher_state_by W.cost_of r.1.dispatcher) r.1.senders.items r.1.seat r.1.load r.1.cells r.1.worker_parties.items) }
 {
     let policy = policy_of(alloc, options)?;
     let dispatcher = Dispatcher::new(alloc, options, policy)?;
     let Shared {
-        floor,
+        shared,
         senders,
         takers,
         cells,
@@ -66,9 +66,9 @@ pub(crate) fn open<W: FlowWork + Drop, N: RunName + Drop, R: Wait>(
         mut seat,
         mut load,
     } = open_shared::<W, N, R>(rt, alloc, options, hashing)?;
-    let posts = open_posts(
+    let worker_parties = open_worker_parties(
         alloc,
-        &floor,
+        &shared,
         &options.key,
         options.start.buckets(),
         takers,
@@ -76,15 +76,15 @@ pub(crate) fn open<W: FlowWork + Drop, N: RunName + Drop, R: Wait>(
         &mut seat,
         &mut load,
     )?;
-    let crew = Crew {
+    let parties = Parties {
         dispatcher,
         senders,
         seat,
         load,
         cells: own_cells,
-        posts,
+        worker_parties,
     };
-    Ok((floor, crew))
+    Ok((shared, parties))
 }
 
 /// What the parties leave behind their last shift, and how the stream ended.
@@ -93,7 +93,7 @@ pub(crate) struct Ran<W: FlowWork> {
     pub(crate) dispatcher: Dispatcher<W, Balancer>,
     pub(crate) senders: Vec<SenderPass>,
     pub(crate) seat: ShelfSeat<BucketTable<W>>,
-    pub(crate) posts: Vec<Post<Worker<W>, BucketTable<W>>>,
+    pub(crate) worker_parties: Vec<WorkerParty<Worker<W>, BucketTable<W>>>,
     pub(crate) end: DispatcherEnd,
 }
 
@@ -108,50 +108,58 @@ pub(crate) fn run_parties<
 >(
     rt: &R,
     alloc: Global,
-    floor: &Floor<W, N>,
+    shared: &SharedObjects<W, N>,
     work: &W,
     gate: &G,
     source: &mut S,
-    crew: Crew<W>,
+    parties: Parties<W>,
     mut passes: Vec<SenderPass>,
 ) -> Result<Ran<W>, RunFault>
-    requires crew { (options : OptionsView) × IsAccepted options × IsCrew (job W.opening W.after W.cost_of N.packets) (terms_of W.cost_of options) floor.now (face_by W.cost_of crew.dispatcher) crew.senders.items crew.seat crew.load crew.cells crew.posts.items × AreNamed N.packets options.packets (S.left source.old) }
-    requires passes { (passes.items ≡ []) × (length crew.senders.items ≤ vec_capacity passes) }
-    ensures posts { IfOk result (λ r. ArePosts (job W.opening W.after W.cost_of N.packets) floor.now r.posts.items × HaveEnded r.posts.items × (length r.posts.items ≡ length crew.posts.items)) }
-    ensures back { IfOk result (λ r. IsBack floor.now crew.senders.items crew.seat r.senders.items r.seat) }
-    ensures run { IfOk result (λ r. HasRun N.packets (face_by W.cost_of crew.dispatcher).terms (S.left source.old) r.end (face_by W.cost_of r.dispatcher) (map (λ (p : AtLane). p.eye) r.senders.items) (S.left source.new)) }
+    requires parties { (options : OptionsView) × IsAccepted options × AreParties (workload W.opening W.after W.cost_of N.packets) (terms_of W.cost_of options) shared.now (dispatcher_state_by W.cost_of parties.dispatcher) parties.senders.items parties.seat parties.load parties.cells parties.worker_parties.items × AreNamed N.packets options.packets (S.left source.old) }
+    requires passes { (passes.items ≡ []) × (length parties.senders.items ≤ vec_capacity passes) }
+    ensures worker_parties { IfOk result (λ r. AreWorkerParties (workload W.opening W.after W.cost_of N.packets) shared.now r.worker_parties.items × HaveEnded r.worker_parties.items × (length r.worker_parties.items ≡ length parties.worker_parties.items)) }
+    ensures back { IfOk result (λ r. IsBack shared.now parties.senders.items parties.seat r.senders.items r.seat) }
+    ensures run { IfOk result (λ r. HasRun N.packets (dispatcher_state_by W.cost_of parties.dispatcher).terms (S.left source.old) r.end (dispatcher_state_by W.cost_of r.dispatcher) (map (λ (p : AtLane). p.history) r.senders.items) (S.left source.new)) }
     ensures blames { IfOk result (λ r. BlamesRead (Some r.end) (S.faults source.old) (S.faults source.new)) }
-    ensures refused { IfErr result (λ fault. Refuses (face_by W.cost_of crew.dispatcher).terms.packets (S.left source.old) (S.left source.new) fault) }
+    ensures refused { IfErr result (λ fault. Refuses (dispatcher_state_by W.cost_of parties.dispatcher).terms.packets (S.left source.old) (S.left source.new) fault) }
     ensures early { result ≡ Err RunFault.NoMemory → source.new ≡ source.old }
     ensures cause { IfErr result (λ fault. Blames fault (S.faults source.old) (S.faults source.new)) }
     ensures origin { S.origin source.new ≡ S.origin source.old }
 {
-    let Crew {
+    let Parties {
         dispatcher,
         senders,
         seat,
         load,
         cells,
-        posts,
-    } = crew;
+        worker_parties,
+    } = parties;
     let mut lanes = list_for(alloc, senders.len())?;
-    ends_of(rt, &floor.lanes, senders, &mut lanes);
+    ends_of(rt, &shared.lanes, senders, &mut lanes);
     let reader = Reader::start(alloc, source)?;
-    let mut desk = Desk {
+    let mut dispatcher_party = DispatcherParty {
         dispatcher,
         reader,
         lanes,
-        shelf: floor.shelf.end(seat),
-        pool: floor.pool.end(rt, cells),
-        meter: floor.meter.end(load),
+        shelf: shared.shelf.end(seat),
+        pool: shared.pool.end(rt, cells),
+        meter: shared.meter.end(load),
     };
-    let (posts, end) = run_shifts(rt, floor, work, gate, source, posts, &mut desk);
-    let (dispatcher, seat) = desk.leave(&mut passes);
+    let (worker_parties, end) = run_shifts(
+        rt,
+        shared,
+        work,
+        gate,
+        source,
+        worker_parties,
+        &mut dispatcher_party,
+    );
+    let (dispatcher, seat) = dispatcher_party.leave(&mut passes);
     Ok(Ran {
         dispatcher,
         senders: passes,
         seat,
-        posts,
+        worker_parties,
         end,
     })
 }

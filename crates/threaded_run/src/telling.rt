@@ -17,7 +17,7 @@ pub(crate) fn tell<W: FlowWork>(
     dispatcher: Dispatcher<W, Balancer>,
     left: Left<W>,
 ) -> Result<RunEnd<W>, NoMemory>
-    ensures fine { IfOk result (λ end. (dispatcher.short ≡ false) × All (λ w. w.face.short ≡ false) left.workers.items × All (λ t. t.short ≡ false) left.tables.items) }
+    ensures fine { IfOk result (λ end. (dispatcher.short ≡ false) × All (λ w. w.state.short ≡ false) left.workers.items × All (λ t. t.short ≡ false) left.tables.items) }
     ensures journal { IfOk result (λ end. end.journal ≡ dispatcher.journal) }
     ensures custody { IfOk result (λ end. IsOrdered end.custody.items × IsPermutation (flat_map log_in left.workers.items) end.custody.items) }
     ensures worked { IfOk result (λ end. end.worked.items ≡ map worked_in left.workers.items) }

@@ -56,7 +56,7 @@ pub fn run_threads<
     ensures cause { HasRunCause (S.faults source.old) (S.faults source.new) result }
     ensures origin { S.origin source.new ≡ S.origin source.old }
 {
-    let (floor, crew) = open::<W, N, R>(rt, alloc, options, hashing)?;
+    let (shared, parties) = open::<W, N, R>(rt, alloc, options, hashing)?;
     let Rooms {
         passes,
         notes,
@@ -67,10 +67,18 @@ pub fn run_threads<
         dispatcher,
         senders,
         seat,
-        posts,
+        worker_parties,
         end,
-    } = run_parties(rt, alloc, &floor, work, gate, source, crew, passes)?;
-    let left = finish(floor, senders, posts, seat, notes, workers, tables);
+    } = run_parties(rt, alloc, &shared, work, gate, source, parties, passes)?;
+    let left = finish(
+        shared,
+        senders,
+        worker_parties,
+        seat,
+        notes,
+        workers,
+        tables,
+    );
     refused(end)?;
     Ok(tell(alloc, dispatcher, left)?)
 }

@@ -2,8 +2,13 @@
 use Rattle.std.specs.Prelude.{◌==◌, ℕ, ◌%◌, List, length}
 use Rattle.std.specs.List.{filter}
 use Rattle.packet_fields.specs.declared.packet.PacketInfo.{PacketInfo}
+use Rattle.toeplitz.specs.declared.bucket_hash.BucketHash.{BucketHash}
 use Rattle.toeplitz.specs.declared.key.Key.{Key}
 use Rattle.toeplitz.specs.Packet.{packet_hash}
+
+-- the choice of a bucket by this key, of so many buckets
+abbrev pub bucket_hash : Key → ℕ → BucketHash
+bucket_hash key buckets = record { key = key; buckets = buckets }
 
 -- the bucket of a packet, of so many buckets: its hash modulo their number
 abbrev pub bucket_of : Key → ℕ → PacketInfo → ℕ

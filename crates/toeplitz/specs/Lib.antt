@@ -1,3 +1,4 @@
+-- Read Bits, Toeplitz, Packet and Bucket, in this order. Tables serves proofs of bodies alone.
 pub mod Bits
 pub mod Bucket
 pub mod Packet

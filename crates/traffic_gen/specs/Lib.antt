@@ -1,3 +1,5 @@
+-- Read Draw, Packet and Traffic, in this order, then Source, Info and Capture. Upcoming serves
+-- proofs of bodies alone.
 pub mod Capture
 pub mod Draw
 pub mod Info

@@ -1,10 +1,14 @@
 //! Captures that are made from two numbers, for tests and measurements.
 //!
 //! The traffic of a number is defined as one list of bytes (`specs/Traffic.antt`): a capture of
-//! Ethernet frames of TCP and UDP over IPv4. A number is drawn for each packet: in the lower half of
-//! its range the packet is of one of four large flows. [`make`] writes it, a [`TrafficSource`] gives
-//! it, both byte for byte, and [`info_at`] answers the fields of any of its packets without making
-//! the bytes. It is a whole capture of its packets ([`good_capture`]).
+//! Ethernet frames of TCP and UDP over IPv4. A number is drawn for each packet: in the lower half
+//! of its range the packet is of one of four large flows. [`make`] writes it, a [`TrafficSource`]
+//! gives it, both byte for byte, and [`info_at`] answers the fields of any of its packets without
+//! making the bytes. It is a whole capture of its packets ([`good_capture`]).
+//!
+//! Read `specs/Draw.antt`, `specs/Packet.antt` and `specs/Traffic.antt`, then `writing.rt` and
+//! `source.rt`; then `specs/Info.antt` with `info.rt`, and `specs/Capture.antt` with `laws.rt`. The
+//! other files make single records.
 #![tactic(auto)]
 
 mod ahead;

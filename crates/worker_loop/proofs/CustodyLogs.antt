@@ -10,25 +10,26 @@ use Rattle.core_queue.specs.declared.item.Seen.{Seen}
 use Rattle.core_queue.specs.declared.item.Seen.TheVariants.{Packet, Close}
 use Rattle.core_queue.specs.Cells.{plain}
 use Rattle.parked_queue.specs.Parked.{cells_at, AllEmpty}
-use Rattle.handover_words.specs.declared.eye.ShelfEye.{ShelfEye}
-use Rattle.handover_words.specs.declared.eye.Stretch.{Stretch}
-use Rattle.handover_words.specs.ShelfEye.{saw, number}
+use Rattle.handover_words.specs.declared.history.ShelfHistory.{ShelfHistory}
+use Rattle.handover_words.specs.declared.history.Stretch.{Stretch}
+use Rattle.handover_words.specs.ShelfHistory.{saw, number}
 use Rattle.handover_words.specs.Stock.{Stock}
 use Rattle.worker_loop.specs.declared.slot.Slot.{Slot}
 use Rattle.worker_loop.specs.declared.slot.Slot.TheVariants.{Away, Held, Leaving}
 use Rattle.worker_loop.specs.declared.worker_turn.WorkerTurn.{WorkerTurn}
 use Rattle.worker_loop.specs.declared.worker_turn.WorkerTurn.TheVariants.{Released, Claimed, Worked, Parked, Marked, EndTaken, Idle, Ended}
-use Rattle.worker_loop.specs.Job.{Run, Job, custody}
-use Rattle.worker_loop.specs.Face.{Face}
-use Rattle.worker_loop.specs.Fresh.{fresh_face}
+use Rattle.toeplitz.specs.declared.bucket_hash.BucketHash.{BucketHash}
+use Rattle.worker_loop.specs.Workload.{Workload, custody}
+use Rattle.worker_loop.specs.WorkerState.{WorkerState}
+use Rattle.worker_loop.specs.Fresh.{fresh_worker_state}
 use Rattle.worker_loop.specs.Chains.{cells_of}
 use Rattle.worker_loop.specs.Tied.{Tied, slot_at}
-use Rattle.worker_loop.specs.Scene.{Scene, Refused, NoneLeaves, NoneHeld, IsLeaving, IsHeld}
+use Rattle.worker_loop.specs.WorkerSnapshot.{WorkerSnapshot, AnsweredNotYet, NoneLeaves, NoneHeld, IsLeaving, IsHeld}
 use Rattle.worker_loop.specs.Does.{SameLog, IsSame}
 use Rattle.worker_loop.specs.Rules.{IsTurn, Acts, IsReleased}
 use Rattle.worker_loop.specs.Shows.{from_of}
 use Rattle.handover_core.specs.Spans.{Span, Spans, no_spans, last_span, spans_of, spans_in}
-use Rattle.worker_loop.specs.Custodies.{cell_spans, history, in_hand, FitsSpans, AllHaveSpans, ended_at, ends_by, stretch_of, LogHasSpans, SeatHasSpans, AreEntries}
+use Rattle.worker_loop.specs.Custodies.{cell_spans, ended_spans, in_hand, FitsSpans, AllHaveSpans, ended_at, ends_by, stretch_of, LogHasSpans, SeatHasSpans, AreEntries}
 use Rattle.handover_core.specs.Spans.{spans_at}
 use Rattle.handover_core.proofs.SpanStints.{stream_spans}
 use Rattle.indirection.specs.JournalView.{JournalView}
@@ -41,20 +42,20 @@ use Rattle.worker_loop.proofs.CellSpans.{spans_plain}
 use Rattle.worker_loop.proofs.CustodySteps.{turn_stinted}
 
 -- the log has what the turns end, in their order, unless the worker is short
-pub record LogsEnds {S : Type 0} (w w' : Face (TableOf S)) (es : List Stretch) : Type 0 where
+pub record LogsEnds {S : Type 0} (w w' : WorkerState (TableOf S)) (es : List Stretch) : Type 0 where
   pub was : w.short ≡ false
   pub log : map stretch_of w'.log ≡ map stretch_of w.log ++ es
 
 module _ {S : Type 0} where
-  same_log : (w w' : Face (TableOf S)) → SameLog w w' → w'.short ≡ false → LogsEnds w w' []
+  same_log : (w w' : WorkerState (TableOf S)) → SameLog w w' → w'.short ≡ false → LogsEnds w w' []
   same_log w w' h fine = record { was = sym h.short ∙ fine; log = ap (map stretch_of) h.log ∙ sym (append-nil (map stretch_of w.log)) }
 
   -- refused claims end nothing
-  refused_ended : (w : Face (TableOf S)) (now : Option (Stock (TableOf S))) (bs : List ℕ) (e e' : ShelfEye) → Refused w now bs e e' → e'.ended ≡ e.ended
-  refused_ended w now [] e e' h = ap (λ (z : ShelfEye). z.ended) h
+  refused_ended : (w : WorkerState (TableOf S)) (now : Option (Stock (TableOf S))) (bs : List ℕ) (e e' : ShelfHistory) → AnsweredNotYet w now bs e e' → e'.ended ≡ e.ended
+  refused_ended w now [] e e' h = ap (λ (z : ShelfHistory). z.ended) h
   refused_ended w now (b ∷ bs) e e' h = refused_ended w now bs (saw b h.0 e) e' h.3
 
-module _ {S : Type 0} (j : Job S) (s t : Scene (TableOf S)) where
+module _ {S : Type 0} (j : Workload S) (s t : WorkerSnapshot (TableOf S)) where
   ends_is : (b : ℕ) (r : IsReleased b s t) → ended_at b (slot_at b s.worker) ≡ record { bucket = b; from = r.does.from; to = r.does.table.done } ∷ []
   ends_is b r = ap (ended_at b) r.does.was ∙ ap (λ (o : Option Begun). record { bucket = b; from = from_of o; to = r.does.table.done } ∷ []) r.does.custody_is
 
@@ -93,8 +94,8 @@ module _ {S : Type 0} (j : Job S) (s t : Scene (TableOf S)) where
 
   -- a seat's ended custodies have the newest first
   pub turn_ended : (turn : WorkerTurn) → IsTurn j s turn t → t.shelf.ended ≡ ends_by turn s.worker ++ s.shelf.ended
-  turn_ended (Released b) r = ap (λ (e : ShelfEye). e.ended) r.does.shelf ∙ (ap (λ (o : Option ℕ). record { bucket = b; from = number o; to = r.does.table.done } ∷ s.shelf.ended) r.does.claim ∙ ap (λ (z : List Stretch). z ++ s.shelf.ended) (sym (ends_is b r)))
-  turn_ended (Claimed b) r = ap (λ (e : ShelfEye). e.ended) r.shelf ∙ refused_ended s.worker s.shelf_now r.first.before s.shelf r.eye r.first.refused
+  turn_ended (Released b) r = ap (λ (e : ShelfHistory). e.ended) r.does.shelf ∙ (ap (λ (o : Option ℕ). record { bucket = b; from = number o; to = r.does.table.done } ∷ s.shelf.ended) r.does.claim ∙ ap (λ (z : List Stretch). z ++ s.shelf.ended) (sym (ends_is b r)))
+  turn_ended (Claimed b) r = ap (λ (e : ShelfHistory). e.ended) r.shelf ∙ refused_ended s.worker s.shelf_now r.first.before s.shelf r.history r.first.refused
   turn_ended Worked r = refused_ended s.worker s.shelf_now s.worker.lot.waiting s.shelf t.shelf r.refused.0
   turn_ended Parked r = refused_ended s.worker s.shelf_now s.worker.lot.waiting s.shelf t.shelf r.refused.0
   turn_ended Marked r = refused_ended s.worker s.shelf_now s.worker.lot.waiting s.shelf t.shelf r.refused.0
@@ -136,9 +137,9 @@ module _ {S : Type 0} where
   sits_equal (Held t) d h s = (λ i. s.0 i ++ last_span (sym s.1 i))
   sits_equal (Leaving t) d h s = s
 
-  pub stinted_equal : (w : Face (TableOf S)) (taken : List Seen) (done : List Stretch) (b : ℕ) → AllHaveSpans w taken done → b < w.run.buckets
-      → (over : List Facts) × (cells_of b taken ≡ over ++ cells_at b w.lot) × (history b done ++ in_hand (slot_at b w) ≡ spans_of (cell_spans no_spans over))
-  stinted_equal w taken done b k near = let h = k b near in (h.over, h.split, sits_equal (slot_at b w) (cell_spans no_spans h.over) (history b done) h.sits)
+  pub stinted_equal : (w : WorkerState (TableOf S)) (taken : List Seen) (done : List Stretch) (b : ℕ) → AllHaveSpans w taken done → b < w.run.buckets
+      → (over : List Facts) × (cells_of b taken ≡ over ++ cells_at b w.lot) × (ended_spans b done ++ in_hand (slot_at b w) ≡ spans_of (cell_spans no_spans over))
+  stinted_equal w taken done b k near = let h = k b near in (h.over, h.split, sits_equal (slot_at b w) (cell_spans no_spans h.over) (ended_spans b done) h.sits)
 
   away_of : (o : Slot (TableOf S)) (d : Spans) (h : List Span) → ¬ (IsLeaving o) → ¬ (IsHeld o) → FitsSpans o d h → h ≡ spans_of d
   away_of Away d h l g s = s
@@ -146,15 +147,15 @@ module _ {S : Type 0} where
   away_of (Leaving t) d h l g s = absurd (l tt)
 
   -- where nothing is parked, held or leaves, the custodies of a bucket are the stretches of all that was taken
-  pub over_stinted : (w : Face (TableOf S)) (taken : List Seen) (done : List Stretch) (b : ℕ) → AllHaveSpans w taken done → AllEmpty w.lot → NoneLeaves w → NoneHeld w → b < w.run.buckets → history b done ≡ spans_in b (map plain taken)
+  pub over_stinted : (w : WorkerState (TableOf S)) (taken : List Seen) (done : List Stretch) (b : ℕ) → AllHaveSpans w taken done → AllEmpty w.lot → NoneLeaves w → NoneHeld w → b < w.run.buckets → ended_spans b done ≡ spans_in b (map plain taken)
   over_stinted w taken done b k empty leaves held near =
       let h = k b near in
       let all : cells_of b taken ≡ h.over = h.split ∙ (ap (λ xs. h.over ++ xs) (empty b) ∙ append-nil h.over) in
-      away_of (slot_at b w) (cell_spans no_spans h.over) (history b done) (leaves b) (held b) h.sits ∙ (ap (λ fs. spans_of (cell_spans no_spans fs)) (sym all) ∙ sym (ap spans_of (spans_plain b no_spans taken)))
+      away_of (slot_at b w) (cell_spans no_spans h.over) (ended_spans b done) (leaves b) (held b) h.sits ∙ (ap (λ fs. spans_of (cell_spans no_spans fs)) (sym all) ∙ sym (ap spans_of (spans_plain b no_spans taken)))
 
-  pub fresh_stinted : (core : ℕ) (run : Run) → AllHaveSpans {S = S} (fresh_face core run) [] []
+  pub fresh_stinted : (core : ℕ) (run : BucketHash) → AllHaveSpans {S = S} (fresh_worker_state core run) [] []
   fresh_stinted core run b near =
-      let slot : slot_at b (fresh_face {T = TableOf S} core run) ≡ Away = get_or-replicate run.buckets b Away Away near in
+      let slot : slot_at b (fresh_worker_state {T = TableOf S} core run) ≡ Away = get_or-replicate run.buckets b Away Away near in
       record { over = []; split = sym (none_at run.buckets b near); sits = subst (λ (o : Slot (TableOf S)). FitsSpans o no_spans []) (sym slot) refl }
 
 -- entries
@@ -163,14 +164,14 @@ entries_snoc core n [] c h is near = (is, near, tt)
 entries_snoc core n (x ∷ xs) c h is near = (h.0, h.1, entries_snoc core n xs c h.2 is near)
 
 module _ {S : Type 0} where
-  entries_same : (w w' : Face (TableOf S)) → IsSame w w' → SameLog w w' → AreEntries w.core w.run.buckets w.log → AreEntries w'.core w'.run.buckets w'.log
-  entries_same w w' same log h = subst (λ (y : ℕ × Run × List Custody). AreEntries y.0 y.1.buckets y.2) (λ i. (sym same.core i, sym same.run i, sym log.log i)) h
+  entries_same : (w w' : WorkerState (TableOf S)) → IsSame w w' → SameLog w w' → AreEntries w.core w.run.buckets w.log → AreEntries w'.core w'.run.buckets w'.log
+  entries_same w w' same log h = subst (λ (y : ℕ × BucketHash × List Custody). AreEntries y.0 y.1.buckets y.2) (λ i. (sym same.core i, sym same.run i, sym log.log i)) h
 
   -- a slot that isn't away is in range
   in_range : (slots : List (Slot (TableOf S))) (b : ℕ) (t : TableOf S) → get_or slots b Away ≡ Leaving t → b < length slots
   in_range slots b t is = ⊎_elim (λ (l : b < length slots). l) (λ far. let z : Away ≡ Leaving t = sym (get_or_past slots b Away far) ∙ is in absurd (cc)) (cases_lt b (length slots))
 
-module _ {S : Type 0} (j : Job S) (s t : Scene (TableOf S)) where
+module _ {S : Type 0} (j : Workload S) (s t : WorkerSnapshot (TableOf S)) where
   acts_entries : (turn : WorkerTurn) (x : Seen) → Acts j turn x s t → AreEntries s.worker.core s.worker.run.buckets s.worker.log → AreEntries t.worker.core t.worker.run.buckets t.worker.log
   acts_entries Parked (Packet f) a h = entries_same s.worker t.worker a.0.same a.0.log h
   acts_entries Worked (Packet f) a h = entries_same s.worker t.worker a.0.same a.0.log h
@@ -194,8 +195,8 @@ module _ {S : Type 0} (j : Job S) (s t : Scene (TableOf S)) where
       let d = r.does in let w = s.worker in
       let near : b < w.run.buckets = let l = in_range w.slots b d.table d.was in omega arith in
       ⊎_elim
-      (λ g. subst (λ (y : ℕ × Run × List Custody). AreEntries y.0 y.1.buckets y.2) (λ i. (sym d.same.core i, sym d.same.run i, sym g.0 i)) (entries_snoc w.core w.run.buckets w.log (custody b w.core d.from d.table.done) h refl near))
-      (λ g. subst (λ (y : ℕ × Run × List Custody). AreEntries y.0 y.1.buckets y.2) (λ i. (sym d.same.core i, sym d.same.run i, sym g.0 i)) h) d.logs
+      (λ g. subst (λ (y : ℕ × BucketHash × List Custody). AreEntries y.0 y.1.buckets y.2) (λ i. (sym d.same.core i, sym d.same.run i, sym g.0 i)) (entries_snoc w.core w.run.buckets w.log (custody b w.core d.from d.table.done) h refl near))
+      (λ g. subst (λ (y : ℕ × BucketHash × List Custody). AreEntries y.0 y.1.buckets y.2) (λ i. (sym d.same.core i, sym d.same.run i, sym g.0 i)) h) d.logs
 
   pub turn_entries : (turn : WorkerTurn) → Tied j s.worker s.lane s.shelf s.meter → IsTurn j s turn t → AreEntries s.worker.core s.worker.run.buckets s.worker.log → AreEntries t.worker.core t.worker.run.buckets t.worker.log
   turn_entries (Released b) tied r h = entries_released b tied.slots r h
@@ -209,5 +210,5 @@ module _ {S : Type 0} (j : Job S) (s t : Scene (TableOf S)) where
 
   -- where a worker has ended that took a core's stream, its custodies are the stints that the core has
   pub ended_stints : (rules : Rules) (xs : List Parcel) (jn : JournalView) (cores b c : ℕ) (done : List Stretch) → IsTurn j s Ended t → AllHaveSpans s.worker s.lane.taken done → b < s.worker.run.buckets
-      → map plain s.lane.taken ≡ stream c (dispatches cores xs jn) → IsLawfulSoFar rules xs jn → history b done ≡ spans_at c (stints jn xs b)
+      → map plain s.lane.taken ≡ stream c (dispatches cores xs jn) → IsLawfulSoFar rules xs jn → ended_spans b done ≡ spans_at c (stints jn xs b)
   ended_stints rules xs jn cores b c done r k near is lawful = over_stinted s.worker s.lane.taken done b k r.none_parked r.none_leaves r.none_held near ∙ (ap (spans_in b) is ∙ stream_spans rules xs jn cores b c lawful)

@@ -4,13 +4,13 @@ use Rattle.std.proofs.lemmas.List.{append-nil}
 use Rattle.packet_fields.specs.declared.packet.PacketInfo.{PacketInfo}
 use Rattle.bucket_table.specs.Table.{TableOf, StandsFor}
 use Rattle.bucket_table.specs.declared.custody.Begun.{Begun}
-use Rattle.worker_loop.specs.Job.{Job, Grew}
+use Rattle.worker_loop.specs.Workload.{Workload, Grew}
 
 was_fine : (old new : Bool) → (IsTrue old → IsTrue new) → new ≡ false → old ≡ false
 was_fine false new h is = refl
 was_fine true new h is = absurd (let z : false ≡ true = sym is ∙ h refl in cc)
 
-module _ {S : Type 0} (j : Job S) where
+module _ {S : Type 0} (j : Workload S) where
   pub grew_none : (t : TableOf S) → Grew j t [] t
   grew_none t packets s fine = subst (λ (ps : List PacketInfo). StandsFor j.opening j.after ps t) (sym (append-nil packets)) s
 

@@ -4,11 +4,12 @@ use Rattle.std.specs.List.{list_any}
 use Rattle.std.proofs.lemmas.List.Elements.{All-append, All-map, All-nil, All-cons, All-head, All-tail}
 use Rattle.packet_fields.specs.declared.key.FlowKey.{FlowKey}
 use Rattle.packet_fields.specs.declared.packet.PacketInfo.{PacketInfo}
+use Rattle.toeplitz.specs.declared.bucket_hash.BucketHash.{BucketHash}
 use Rattle.toeplitz.specs.Packet.{packet_hash}
 use Rattle.flow_work.specs.Flow.{flow_state}
 use Rattle.bucket_table.specs.FirstKeys.{same_key, with_key, first_keys}
 use Rattle.bucket_table.specs.Table.{TableOf}
-use Rattle.worker_loop.specs.Job.{Job, Run, Stands}
+use Rattle.worker_loop.specs.Workload.{Workload, Stands}
 use Rattle.worker_loop.specs.Keys.{HasBucket}
 
 with_one : (P : FlowKey → Type 0) (keys : List FlowKey) (k : FlowKey) (t : Bool) → All P keys → P k → All P (if t then keys else keys ++ k ∷ [])
@@ -19,7 +20,7 @@ all_keys : (P : FlowKey → Type 0) (keys : List FlowKey) (ps : List PacketInfo)
 all_keys P keys [] a h = a
 all_keys P keys (p ∷ ps) a h = all_keys P (with_key keys p.key) ps (with_one P keys p.key (list_any (same_key p.key) keys) a (All-head (λ (q : PacketInfo). P q.key) p ps h)) (All-tail (λ (q : PacketInfo). P q.key) p ps h)
 
-pub keys_in : {S : Type 0} (j : Job S) (r : Run) (b : ℕ) (t : TableOf S) → Stands j r b t → t.short ≡ false → All (λ (e : FlowKey × S). HasBucket r b e.0) t.flows
+pub keys_in : {S : Type 0} (j : Workload S) (r : BucketHash) (b : ℕ) (t : TableOf S) → Stands j r b t → t.short ≡ false → All (λ (e : FlowKey × S). HasBucket r b e.0) t.flows
 unfolding packet_hash
 keys_in {S} j r b t s fine =
     let h = s.stands fine in

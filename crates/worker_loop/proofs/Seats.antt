@@ -9,21 +9,22 @@ use Rattle.packet_pool.specs.declared.cell.Facts.{Facts}
 use Rattle.handover_core.specs.Legal.{Stand}
 use Rattle.core_queue.specs.declared.item.Seen.{Seen}
 use Rattle.core_queue.specs.declared.item.Seen.TheVariants.{Packet, Close}
-use Rattle.handover_words.specs.declared.eye.ShelfEye.{ShelfEye}
-use Rattle.handover_words.specs.declared.eye.Claim.{Claim}
-use Rattle.handover_words.specs.declared.eye.Stretch.{Stretch}
-use Rattle.handover_words.specs.ShelfEye.{HasClaim, saw, without}
+use Rattle.handover_words.specs.declared.history.ShelfHistory.{ShelfHistory}
+use Rattle.handover_words.specs.declared.history.Claim.{Claim}
+use Rattle.handover_words.specs.declared.history.Stretch.{Stretch}
+use Rattle.handover_words.specs.ShelfHistory.{HasClaim, saw, without}
 use Rattle.handover_words.specs.Stock.{Stock}
 use Rattle.handover_words.proofs.Claims.{HasClaim-without}
 use Rattle.worker_loop.specs.declared.slot.Slot.{Slot}
 use Rattle.worker_loop.specs.declared.slot.Slot.TheVariants.{Away, Held, Leaving}
 use Rattle.worker_loop.specs.declared.worker_turn.WorkerTurn.{WorkerTurn}
 use Rattle.worker_loop.specs.declared.worker_turn.WorkerTurn.TheVariants.{Released, Claimed, Worked, Parked, Marked, EndTaken, Idle, Ended}
-use Rattle.worker_loop.specs.Job.{Run, Job}
-use Rattle.worker_loop.specs.Face.{Face}
-use Rattle.worker_loop.specs.Fresh.{fresh_face}
+use Rattle.toeplitz.specs.declared.bucket_hash.BucketHash.{BucketHash}
+use Rattle.worker_loop.specs.Workload.{Workload}
+use Rattle.worker_loop.specs.WorkerState.{WorkerState}
+use Rattle.worker_loop.specs.Fresh.{fresh_worker_state}
 use Rattle.worker_loop.specs.Tied.{Tied, Lies, slot_at}
-use Rattle.worker_loop.specs.Scene.{Scene, Refused, NoneLeaves, NoneHeld, IsLeaving, IsHeld, first_of}
+use Rattle.worker_loop.specs.WorkerSnapshot.{WorkerSnapshot, AnsweredNotYet, NoneLeaves, NoneHeld, IsLeaving, IsHeld, first_parked_place}
 use Rattle.worker_loop.specs.Does.{leave, moved, either}
 use Rattle.worker_loop.specs.Chains.{has_mark, stand_after}
 use Rattle.worker_loop.specs.Shows.{from_of}
@@ -51,21 +52,21 @@ module _ {S : Type 0} where
   moved_from false t = refl
 
   -- refused claims don't change what is held
-  refused_held : (w : Face (TableOf S)) (now : Option (Stock (TableOf S))) (bs : List ℕ) (e e' : ShelfEye) → Refused w now bs e e' → e'.held ≡ e.held
-  refused_held w now [] e e' h = ap (λ (z : ShelfEye). z.held) h
+  refused_held : (w : WorkerState (TableOf S)) (now : Option (Stock (TableOf S))) (bs : List ℕ) (e e' : ShelfHistory) → AnsweredNotYet w now bs e e' → e'.held ≡ e.held
+  refused_held w now [] e e' h = ap (λ (z : ShelfHistory). z.held) h
   refused_held w now (b ∷ bs) e e' h = refused_held w now bs (saw b h.0 e) e' h.3
 
-  same_held : (w w' : Face (TableOf S)) (e e' : ShelfEye) → ((k : ℕ) → claimed_from (slot_at k w') ≡ claimed_from (slot_at k w)) → e'.held ≡ e.held → HeldBy w e → HeldBy w' e'
+  same_held : (w w' : WorkerState (TableOf S)) (e e' : ShelfHistory) → ((k : ℕ) → claimed_from (slot_at k w') ≡ claimed_from (slot_at k w)) → e'.held ≡ e.held → HeldBy w e → HeldBy w' e'
   same_held w w' e e' slots held owns b p h = slots b ∙ owns b p (subst (λ (l : List Claim). HasClaim b p l) held h)
 
-  set_held : (w w' : Face (TableOf S)) (e e' : ShelfEye) (b : ℕ) (x : Slot (TableOf S)) → w'.slots ≡ set w.slots b x → claimed_from x ≡ claimed_from (slot_at b w) → e'.held ≡ e.held → HeldBy w e → HeldBy w' e'
+  set_held : (w w' : WorkerState (TableOf S)) (e e' : ShelfHistory) (b : ℕ) (x : Slot (TableOf S)) → w'.slots ≡ set w.slots b x → claimed_from x ≡ claimed_from (slot_at b w) → e'.held ≡ e.held → HeldBy w e → HeldBy w' e'
   set_held w w' e e' b x slots from held owns = same_held w w' e e' (λ k. ap (λ (l : List (Slot (TableOf S))). claimed_from (get_or l k Away)) slots ∙ set_from w.slots b k x from) held owns
 
-  like_held : (w w' : Face (TableOf S)) (e e' : ShelfEye) → w'.slots ≡ w.slots → e'.held ≡ e.held → HeldBy w e → HeldBy w' e'
+  like_held : (w w' : WorkerState (TableOf S)) (e e' : ShelfHistory) → w'.slots ≡ w.slots → e'.held ≡ e.held → HeldBy w e → HeldBy w' e'
   like_held w w' e e' slots held owns = same_held w w' e e' (λ k. ap (λ (l : List (Slot (TableOf S))). claimed_from (get_or l k Away)) slots) held owns
 
   -- a bucket that waits has no table
-  waits_away : (j : Job S) (r : Run) (core b : ℕ) (v : ShelfEye) (ended : Bool) (o : Slot (TableOf S)) (s : Stand) (fs : List Facts) → Lies j r core b v ended o s fs → ¬ (IsLeaving o) → fs ≢ [] → claimed_from o ≡ None
+  waits_away : (j : Workload S) (r : BucketHash) (core b : ℕ) (v : ShelfHistory) (ended : Bool) (o : Slot (TableOf S)) (s : Stand) (fs : List Facts) → Lies j r core b v ended o s fs → ¬ (IsLeaving o) → fs ≢ [] → claimed_from o ≡ None
   waits_away j r core b v ended Away s fs lies stays some = refl
   waits_away j r core b v ended (Held t) s fs lies stays some = absurd (some lies.1)
   waits_away j r core b v ended (Leaving t) s fs lies stays some = absurd (stays tt)
@@ -75,22 +76,22 @@ module _ {S : Type 0} where
   away_none (Held t) place l k e = k tt
   away_none (Leaving t) place l k e = l tt
 
-  no_claims : (w : Face (TableOf S)) (cs : List Claim) → ((b p : ℕ) → HasClaim b p cs → claimed_from (slot_at b w) ≡ Some p) → NoneLeaves w → NoneHeld w → cs ≡ []
+  no_claims : (w : WorkerState (TableOf S)) (cs : List Claim) → ((b p : ℕ) → HasClaim b p cs → claimed_from (slot_at b w) ≡ Some p) → NoneLeaves w → NoneHeld w → cs ≡ []
   no_claims w [] owns leaves held = refl
   no_claims w (c ∷ cs) owns leaves held = absurd (away_none (slot_at c.bucket w) c.place (leaves c.bucket) (held c.bucket) (owns c.bucket c.place (inl (refl, refl))))
 
   -- where the worker has no table, its end holds no claim
-  pub holds_nothing : (w : Face (TableOf S)) (e : ShelfEye) → HeldBy w e → NoneLeaves w → NoneHeld w → e.held ≡ []
+  pub holds_nothing : (w : WorkerState (TableOf S)) (e : ShelfHistory) → HeldBy w e → NoneLeaves w → NoneHeld w → e.held ≡ []
   holds_nothing w e owns leaves held = no_claims w e.held owns leaves held
 
-pub fresh_held : (S : Type 0) (core : ℕ) (run : Run) (e : ShelfEye) → e.held ≡ [] → HeldBy {S = S} (fresh_face core run) e
+pub fresh_held : (S : Type 0) (core : ℕ) (run : BucketHash) (e : ShelfHistory) → e.held ≡ [] → HeldBy {S = S} (fresh_worker_state core run) e
 fresh_held S core run e none b p h = absurd (subst (λ (l : List Claim). HasClaim b p l) none h)
 
-module _ {S : Type 0} (j : Job S) (s t : Scene (TableOf S)) where
+module _ {S : Type 0} (j : Workload S) (s t : WorkerSnapshot (TableOf S)) where
   held_released : (b : ℕ) → HeldBy s.worker s.shelf → IsReleased b s t → HeldBy t.worker t.shelf
   held_released b owns r k p h =
       let w = s.worker in
-      let held : HasClaim k p (without b s.shelf.held) = subst (λ (e : ShelfEye). HasClaim k p e.held) r.does.shelf h in
+      let held : HasClaim k p (without b s.shelf.held) = subst (λ (e : ShelfHistory). HasClaim k p e.held) r.does.shelf h in
       let left = HasClaim-without b k p s.shelf.held held in
       ap (λ (l : List (Slot (TableOf S))). claimed_from (get_or l k Away)) r.does.slots ∙ (ap claimed_from (get_or-set_other w.slots b k Away Away left.1) ∙ owns k p left.0)
 
@@ -101,15 +102,15 @@ module _ {S : Type 0} (j : Job S) (s t : Scene (TableOf S)) where
       let at : b < length w.slots = (let c = tied.slots in omega arith) in
       let was = tied.each b near in
       let away : claimed_from (slot_at b w) ≡ None = waits_away j w.run w.core b s.shelf w.took_end (slot_at b w) (stand_after _ was.over) (cells_at b w.lot) was.lies (r.none_leaves b) r.waits in
-      let held = subst (λ (e : ShelfEye). HasClaim k p e.held) r.shelf h in
-      let here : claimed_from x ≡ Some (first_of b w) = moved_from (either (has_mark (cells_at b w.lot)) w.took_end) d.table ∙ ap (λ (o : Option Begun). Some (from_of o)) d.custody_is in
+      let held = subst (λ (e : ShelfHistory). HasClaim k p e.held) r.shelf h in
+      let here : claimed_from x ≡ Some (first_parked_place b w) = moved_from (either (has_mark (cells_at b w.lot)) w.took_end) d.table ∙ ap (λ (o : Option Begun). Some (from_of o)) d.custody_is in
       ap (λ (l : List (Slot (TableOf S))). claimed_from (get_or l k Away)) d.slots
-      ∙ ⊎_elim (λ (q : (b ≡ k) × (first_of b w ≡ p)). subst (λ i. claimed_from (get_or (set w.slots b x) i Away) ≡ Some p) q.0 (ap claimed_from (get_or-set_same w.slots b x Away at) ∙ (here ∙ ap Some q.1)))
-      (λ (q : HasClaim k p r.eye.held).
-      let old = owns k p (subst (λ (l : List Claim). HasClaim k p l) (refused_held w s.shelf_now r.first.before s.shelf r.eye r.first.refused) q) in
+      ∙ ⊎_elim (λ (q : (b ≡ k) × (first_parked_place b w ≡ p)). subst (λ i. claimed_from (get_or (set w.slots b x) i Away) ≡ Some p) q.0 (ap claimed_from (get_or-set_same w.slots b x Away at) ∙ (here ∙ ap Some q.1)))
+      (λ (q : HasClaim k p r.history.held).
+      let old = owns k p (subst (λ (l : List Claim). HasClaim k p l) (refused_held w s.shelf_now r.first.before s.shelf r.history r.first.refused) q) in
       dite (ℕ_discrete k b) (λ e. absurd (let z : None ≡ Some p = sym (ap (λ i. claimed_from (slot_at i w)) e ∙ away) ∙ old in cc)) (λ ne. ap claimed_from (get_or-set_other w.slots b k x Away ne) ∙ old)) held
 
-  held_acts : (turn : WorkerTurn) (x : Seen) (e' : ShelfEye) → e'.held ≡ s.shelf.held → HeldBy s.worker s.shelf → Acts j turn x s t → HeldBy t.worker e'
+  held_acts : (turn : WorkerTurn) (x : Seen) (e' : ShelfHistory) → e'.held ≡ s.shelf.held → HeldBy s.worker s.shelf → Acts j turn x s t → HeldBy t.worker e'
   held_acts Parked (Packet f) e' held owns a = like_held s.worker t.worker s.shelf e' a.0.slots held owns
   held_acts Worked (Packet f) e' held owns a = set_held s.worker t.worker s.shelf e' f.bucket (Held a.0.table) a.0.slots (ap (λ (o : Option Begun). Some (from_of o)) a.0.custody_is ∙ sym (ap claimed_from a.0.held)) held owns
   held_acts Marked (Packet f) e' held owns a = set_held s.worker t.worker s.shelf e' f.bucket (Leaving a.0.table) a.0.slots (sym (ap claimed_from a.0.held)) held owns
@@ -162,14 +163,14 @@ module _ {S : Type 0} (j : Job S) (s t : Scene (TableOf S)) where
 -- shares, core and run
 
 module _ {S : Type 0} where
-  refused_shares : (w : Face (TableOf S)) (now : Option (Stock (TableOf S))) (bs : List ℕ) (e e' : ShelfEye) → Refused w now bs e e' → e'.shares ≡ e.shares
-  refused_shares w now [] e e' h = ap (λ (z : ShelfEye). z.shares) h
+  refused_shares : (w : WorkerState (TableOf S)) (now : Option (Stock (TableOf S))) (bs : List ℕ) (e e' : ShelfHistory) → AnsweredNotYet w now bs e e' → e'.shares ≡ e.shares
+  refused_shares w now [] e e' h = ap (λ (z : ShelfHistory). z.shares) h
   refused_shares w now (b ∷ bs) e e' h = refused_shares w now bs (saw b h.0 e) e' h.3
 
-module _ {S : Type 0} (j : Job S) (s t : Scene (TableOf S)) where
+module _ {S : Type 0} (j : Workload S) (s t : WorkerSnapshot (TableOf S)) where
   pub keeps_shares : (turn : WorkerTurn) → IsTurn j s turn t → t.shelf.shares ≡ s.shelf.shares
-  keeps_shares (Released b) r = ap (λ (e : ShelfEye). e.shares) r.does.shelf
-  keeps_shares (Claimed b) r = ap (λ (e : ShelfEye). e.shares) r.shelf ∙ refused_shares s.worker s.shelf_now r.first.before s.shelf r.eye r.first.refused
+  keeps_shares (Released b) r = ap (λ (e : ShelfHistory). e.shares) r.does.shelf
+  keeps_shares (Claimed b) r = ap (λ (e : ShelfHistory). e.shares) r.shelf ∙ refused_shares s.worker s.shelf_now r.first.before s.shelf r.history r.first.refused
   keeps_shares Worked r = refused_shares s.worker s.shelf_now s.worker.lot.waiting s.shelf t.shelf r.refused.0
   keeps_shares Parked r = refused_shares s.worker s.shelf_now s.worker.lot.waiting s.shelf t.shelf r.refused.0
   keeps_shares Marked r = refused_shares s.worker s.shelf_now s.worker.lot.waiting s.shelf t.shelf r.refused.0

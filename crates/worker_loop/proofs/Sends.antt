@@ -11,11 +11,11 @@ use Rattle.handover_core.specs.State.{CoreState, MachineView, blank_bucket, blan
 use Rattle.handover_core.specs.Machine.{post, step}
 use Rattle.handover_core.specs.Dispatch.{stream}
 use Rattle.handover_core.specs.Promises.{IsOfWorker}
-use Rattle.core_queue.specs.declared.eye.LaneEye.{LaneEye}
+use Rattle.core_queue.specs.declared.history.LaneHistory.{LaneHistory}
 use Rattle.core_queue.specs.declared.item.Seen.{Seen}
 use Rattle.core_queue.specs.Cells.{plain}
-use Rattle.core_queue.specs.LaneEye.{lane}
-use Rattle.worker_loop.specs.Scene.{Scene}
+use Rattle.core_queue.specs.LaneHistory.{lane}
+use Rattle.worker_loop.specs.WorkerSnapshot.{WorkerSnapshot}
 use Rattle.handover_core.specs.Machine.{posts_by}
 use Rattle.worker_loop.specs.Shows.{Shows}
 
@@ -28,7 +28,7 @@ record IsSentTo (m n : MachineView) (d : ℕ) (xs : List Item) : Type 0 where
   shelf : (b : ℕ) → (bucket_at n b).shelf ≡ (bucket_at m b).shelf
 
 module _ {S : Type 0} where
-  shown_sent : (m n : MachineView) (d : ℕ) (u : Scene (TableOf S)) (h : Shows m d u) (xs : List Item) (ys : List Seen) (l : LaneEye) → IsSentTo m n d xs → map plain ys ≡ xs → l.taken ≡ u.lane.taken
+  shown_sent : (m n : MachineView) (d : ℕ) (u : WorkerSnapshot (TableOf S)) (h : Shows m d u) (xs : List Item) (ys : List Seen) (l : LaneHistory) → IsSentTo m n d xs → map plain ys ≡ xs → l.taken ≡ u.lane.taken
       → Shows n d (record u { lane = l; lane_now = Some (lane (h.lane.items ++ ys) h.lane.room) })
   shown_sent m n d u h xs ys l s e taken =
       let near = h.core in let more = s.cores in let size = s.buckets in
@@ -90,6 +90,6 @@ module _ (m : MachineView) (d : ℕ) (near : d < length m.cores) where
   sends (Release c b) own = absurd (own tt)
 
 -- a worker stays shown, over its lane with what the event sends it
-pub sent_shown : {S : Type 0} (m : MachineView) (d : ℕ) (u : Scene (TableOf S)) (l : LaneEye) (ys : List Seen) (e : Event) (h : Shows m d u) → ¬ (IsOfWorker e) → map plain ys ≡ stream d (posts_by m e) → l.taken ≡ u.lane.taken
+pub sent_shown : {S : Type 0} (m : MachineView) (d : ℕ) (u : WorkerSnapshot (TableOf S)) (l : LaneHistory) (ys : List Seen) (e : Event) (h : Shows m d u) → ¬ (IsOfWorker e) → map plain ys ≡ stream d (posts_by m e) → l.taken ≡ u.lane.taken
     → Shows (step m e) d (record u { lane = l; lane_now = Some (lane (h.lane.items ++ ys) h.lane.room) })
 sent_shown m d u l ys e h own is taken = shown_sent m (step m e) d u h (stream d (posts_by m e)) ys l (sends m d h.core e own) is taken

@@ -8,10 +8,10 @@ use Rattle.handover_core.specs.declared.item.Item.TheVariants.{Of, End}
 use Rattle.handover_core.specs.declared.event.Event.{Event}
 use Rattle.handover_core.specs.declared.event.Event.TheVariants.{Take, Claim, Release}
 use Rattle.handover_core.specs.State.{Hand, Away, Leaving, CoreState, MachineView, bucket_at, core_at, hand_in, hand_at}
-use Rattle.handover_core.specs.Machine.{has_end, is_empty, is_leaving, waits_for, parked, step}
+use Rattle.handover_core.specs.Machine.{has_end, is_empty, is_leaving, waits_for, waiting_places, step}
 use Rattle.handover_core.specs.Promises.{item_bucket}
 use Rattle.parked_queue.specs.Parked.{removed}
-use Rattle.worker_loop.specs.Job.{custody}
+use Rattle.worker_loop.specs.Workload.{custody}
 
 -- an item is taken, where End wasn't taken and there is one
 abbrev pub take_due : MachineView → ℕ → Option Event
@@ -75,7 +75,7 @@ is_packet End = false
 
 -- how many packets a core has worked: those that it took, but for those that are parked
 abbrev pub worked_of : CoreState → ℕ
-worked_of core = count_by is_packet core.taken - sum_by (λ h. length (parked h)) core.hands
+worked_of core = count_by is_packet core.taken - sum_by (λ h. length (waiting_places h)) core.hands
 
 -- what an item's packet costs, where `costs` says what a packet costs by its bucket and place
 abbrev pub item_cost : (ℕ → ℕ → ℕ) → Item → ℕ
@@ -86,7 +86,7 @@ item_cost costs End = 0
 
 -- what the packets cost that a core has parked
 abbrev pub parked_cost : (ℕ → ℕ → ℕ) → CoreState → ℕ
-parked_cost costs core = sum_by (λ b. sum_by (costs b) (parked (hand_in core b))) (upto (length core.hands))
+parked_cost costs core = sum_by (λ b. sum_by (costs b) (waiting_places (hand_in core b))) (upto (length core.hands))
 
 -- what the packets cost that a core has worked: those that it took, but for those that are parked
 abbrev pub worked_cost : (ℕ → ℕ → ℕ) → CoreState → ℕ

@@ -30,8 +30,8 @@ pub(crate) fn shelf_for_two<W: FlowWork, N: RunName>(
 ) -> Result<ForTwo<W, N>, NoMemory>
     ensures run { IfOk result (λ r. r.shelf.run ≡ record { key = DEFAULT_KEY; buckets = 1; ends = 2 }) }
     ensures seats { IfOk result (λ r. IsFreeSeat r.shelf r.one × IsFreeSeat r.shelf r.other) }
-    ensures shares { IfOk result (λ r. r.one.eye.shares + r.other.eye.shares ≡ 2) }
-    ensures new { IfOk result (λ r. (r.one.eye.ended ≡ []) × (r.other.eye.ended ≡ [])) }
+    ensures shares { IfOk result (λ r. r.one.history.shares + r.other.history.shares ≡ 2) }
+    ensures new { IfOk result (λ r. (r.one.history.ended ≡ []) × (r.other.history.ended ≡ [])) }
 {
     let hashing = FlowHashKey::from_bytes(&[7; FLOW_HASH_KEY_BYTES]);
     let (shelf, mut one) = WordShelf::new(alloc, 1, 2, &DEFAULT_KEY, &hashing)?;
@@ -58,10 +58,10 @@ pub(crate) fn open_for_two<R: Wait, W: FlowWork, N: RunName>(
     ensures run { IfOk result (λ o. (o.shelf.run ≡ record { key = DEFAULT_KEY; buckets = 1; ends = 2 }) × (o.meter.cores ≡ 2)) }
     ensures sender { IfOk result (λ o. IsAt o.lane o.shelf o.pool o.meter o.sender) }
     ensures taker { IfOk result (λ o. IsAt o.lane o.shelf o.pool o.meter o.taker) }
-    ensures shares { IfOk result (λ o. o.sender.seat.eye.shares + o.taker.seat.eye.shares ≡ 2) }
-    ensures sent { IfOk result (λ o. o.sender.lane.eye.sent ≡ []) }
-    ensures ended { IfOk result (λ o. (o.sender.seat.eye.ended ≡ []) × (o.taker.seat.eye.ended ≡ [])) }
-    ensures noted { IfOk result (λ o. (o.sender.load.eye.noted ≡ []) × (o.taker.load.eye.noted ≡ [])) }
+    ensures shares { IfOk result (λ o. o.sender.seat.history.shares + o.taker.seat.history.shares ≡ 2) }
+    ensures sent { IfOk result (λ o. o.sender.lane.history.sent ≡ []) }
+    ensures ended { IfOk result (λ o. (o.sender.seat.history.ended ≡ []) × (o.taker.seat.history.ended ≡ [])) }
+    ensures noted { IfOk result (λ o. (o.sender.load.history.noted ≡ []) × (o.taker.load.history.noted ≡ [])) }
 {
     let (lane, sends, takes) = RuledLane::new(alloc, 4, &DEFAULT_KEY, 1)?;
     let ForTwo { shelf, one, other } = shelf_for_two(alloc)?;

@@ -1,8 +1,8 @@
 use Rattle.std.proofs.Common.{◌≡◌, ℕ, ◌<◌, ◌≤◌, get_or, true}
 use Rattle.balancer.specs.declared.ranked.Ranked.{Ranked}
-use Rattle.balancer.specs.Standing.{scene_at}
+use Rattle.balancer.specs.Standing.{round_state_at}
 use Rattle.balancer.proofs.Ranks.{is_taken}
 use Rattle.balancer.proofs.free.first_free.Given as goal
 
 abbrev pub invariant-loop-rank : goal.invariant-loop-rank
-invariant-loop-rank l = (k : ℕ) (d : Ranked) → l.place ≤ k → k < l.rank → is_taken (scene_at l.s) (get_or l.ranking k d) ≡ true
+invariant-loop-rank l = (k : ℕ) (d : Ranked) → l.place ≤ k → k < l.rank → is_taken (round_state_at l.s) (get_or l.ranking k d) ≡ true

@@ -1,11 +1,11 @@
 use Rattle.std.proofs.Common.{arith, subst}
 use Rattle.balancer.specs.Ranking.{IsFirstFree}
-use Rattle.balancer.specs.Standing.{scene_at}
+use Rattle.balancer.specs.Standing.{round_state_at}
 use Rattle.balancer.proofs.Carried.{carried_at}
 use Rattle.balancer.proofs.Leading.{above_leads}
 use Rattle.balancer.proofs.nearest.best_above.Goals as goal
 
 pub returns : goal.returns
-returns c = above_leads (scene_at c.args.s.now) c.args.from c.args.to c.args.half c.in_ok-bucket.bucket c.choice.result
-    (let f = carried_at (scene_at c.args.s.now) c.args.s.now.carried.now c.requires.stands c.args.from c.requires.from in let t = carried_at (scene_at c.args.s.now) c.args.s.now.carried.now c.requires.stands c.args.to c.requires.to in omega (arith, f, t, c.requires.half))
-    (subst (IsFirstFree (scene_at c.args.s.now) c.args.from c.args.half) c.in_ok-bucket.was c.first_free.ensures) c.choice.ensures
+returns c = above_leads (round_state_at c.args.s.now) c.args.from c.args.to c.args.half c.in_ok-bucket.bucket c.choice.result
+    (let f = carried_at (round_state_at c.args.s.now) c.args.s.now.carried.now c.requires.stands c.args.from c.requires.from in let t = carried_at (round_state_at c.args.s.now) c.args.s.now.carried.now c.requires.stands c.args.to c.requires.to in omega (arith, f, t, c.requires.half))
+    (subst (IsFirstFree (round_state_at c.args.s.now) c.args.from c.args.half) c.in_ok-bucket.was c.first_free.ensures) c.choice.ensures

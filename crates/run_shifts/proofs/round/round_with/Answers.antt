@@ -2,7 +2,7 @@ use Rattle.std.proofs.Common.{rules, ◌∙◌}
 use Rattle.run_shifts.proofs.round.round_with.Goals as goal
 
 pub returns-clause-lent : goal.returns-clause-lent
-returns-clause-lent g c = let e = c.shifts-posts.ensures.own.1 in record {
+returns-clause-lent g c = let e = c.shifts-worker_parties.ensures.own.1 in record {
   first = e.first;
   second = e.second;
   first_left = e.first_left;

@@ -4,7 +4,7 @@ use Rattle.shared_ends.proofs.in_turn.work_at.Given as goal
 abbrev pub invariant-loop : goal.invariant-loop
 invariant-loop g l = record {
   home : l.end.home ≡ l.initial.end.home;
-  key : l.end.eye.key ≡ l.initial.end.eye.key;
-  buckets : l.end.eye.buckets ≡ l.initial.end.eye.buckets;
-  free : l.end.eye.held ≡ [];
+  key : l.end.history.key ≡ l.initial.end.history.key;
+  buckets : l.end.history.buckets ≡ l.initial.end.history.buckets;
+  free : l.end.history.held ≡ [];
 }

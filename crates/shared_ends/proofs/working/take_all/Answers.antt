@@ -6,10 +6,10 @@ use Rattle.packet_pool.specs.Facts.{facts}
 use Rattle.core_queue.specs.declared.item.Item.{Item}
 use Rattle.core_queue.specs.declared.item.Seen.{Seen}
 use Rattle.core_queue.specs.declared.item.Seen.TheVariants.{Packet, Close}
-use Rattle.core_queue.specs.declared.eye.LaneEye.{LaneEye}
+use Rattle.core_queue.specs.declared.history.LaneHistory.{LaneHistory}
 use Rattle.core_queue.specs.Seen.{seen}
 use Rattle.core_queue.specs.Cells.{LegalCells, IsCarried}
-use Rattle.core_queue.specs.LaneEye.{took}
+use Rattle.core_queue.specs.LaneHistory.{took}
 use Rattle.core_queue.specs.RuledLane.{HasEnd}
 use Rattle.core_queue.proofs.Cells.{cells-last}
 use Rattle.shared_ends.specs.Sides.{SameRun}
@@ -21,20 +21,20 @@ ends (Packet f ∷ xs) = ends xs
 ends (Close ∷ xs) = refl
 
 -- an item that comes carries what its kind says
-comes : (x : Option (List PacketInfo)) (old e : LaneEye) (i : Item) (s : Seen) → SameRun old e → seen i ≡ s → LegalCells x e.key e.buckets (e.taken ++ seen i ∷ []) → IsCarried x old.key old.buckets s
+comes : (x : Option (List PacketInfo)) (old e : LaneHistory) (i : Item) (s : Seen) → SameRun old e → seen i ≡ s → LegalCells x e.key e.buckets (e.taken ++ seen i ∷ []) → IsCarried x old.key old.buckets s
 comes x old e i s run is legal =
     subst (λ (z : Key × ℕ). IsCarried x z.0 z.1 s) (λ j. (run.key j, run.buckets j))
     (cells-last x e.key e.buckets e.taken s (subst (λ (y : Seen). LegalCells x e.key e.buckets (e.taken ++ y ∷ [])) is legal)).1
 
 pub returns-in-Some-End-clause-ended : goal.returns-in-Some-End-clause-ended
 returns-in-Some-End-clause-ended g c =
-    let old : LaneEye = g.L.LaneEnd.eye c.loop.lane in
-    let eye = c.in-Some-End.ensures.eye ∙ ap (λ (x : Item). took (seen x) old) c.in-Some-End.field-0-is in
-    subst (λ (e : LaneEye). HasEnd e.taken) (sym eye) (ends old.taken)
+    let old : LaneHistory = g.L.LaneEnd.history c.loop.lane in
+    let history = c.in-Some-End.ensures.history ∙ ap (λ (x : Item). took (seen x) old) c.in-Some-End.field-0-is in
+    subst (λ (e : LaneHistory). HasEnd e.taken) (sym history) (ends old.taken)
 
 pub loop-preserved-in-Some-Cell : goal.loop-preserved-in-Some-Cell
 loop-preserved-in-Some-Cell g c =
-    let old = g.L.LaneEnd.eye c.args.lane.now in let e = g.L.LaneEnd.eye c.loop.lane in let inv = c.loop.invariant in
+    let old = g.L.LaneEnd.history c.args.lane.now in let e = g.L.LaneEnd.history c.loop.lane in let inv = c.loop.invariant in
     let is = ap seen c.in-Some-Cell.field-0-is ∙ ap (λ (v : Cell). Packet (facts v)) (sym c.deref.ensures) in
     record {
       lane_home = search rules;
@@ -45,7 +45,7 @@ loop-preserved-in-Some-Cell g c =
 
 pub loop-preserved : goal.loop-preserved
 loop-preserved g c =
-    let old = g.L.LaneEnd.eye c.args.lane.now in let e = g.L.LaneEnd.eye c.loop.lane in let inv = c.loop.invariant in
+    let old = g.L.LaneEnd.history c.args.lane.now in let e = g.L.LaneEnd.history c.loop.lane in let inv = c.loop.invariant in
     let is = ap seen c.in-Some-Cell.field-0-is ∙ ap (λ (v : Cell). Packet (facts v)) (sym c.deref.ensures) in
     record {
       lane_home = search rules;

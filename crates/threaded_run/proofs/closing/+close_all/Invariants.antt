@@ -2,4 +2,4 @@ use Rattle.std.proofs.Common.{length}
 use Rattle.threaded_run.proofs.closing.+close_all.Given as goal
 
 abbrev pub decreases-close_all : goal.decreases-close_all
-decreases-close_all g l = length l.posts.items
+decreases-close_all g l = length l.worker_parties.items

@@ -1,5 +1,5 @@
-use Rattle.std.proofs.Common.{◌≡◌, ◌≤◌, vec_len, vec_capacity}
-use Rattle.threaded_run.specs.Parties.{new_passes}
+use Rattle.std.proofs.Common.{◌≡◌, vec_len, vec_capacity}
+use Rattle.threaded_run.specs.PartyLists.{new_passes}
 use Rattle.threaded_run.proofs.lanes.open_lanes.Given as goal
 
 abbrev pub invariant-loop-core : goal.invariant-loop-core

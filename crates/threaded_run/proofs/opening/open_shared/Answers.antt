@@ -1,4 +1,4 @@
-use Rattle.std.proofs.Common.{◌≡◌, ◌∙◌, ◌+◌, ◌++◌, ◌∷◌, [], rules, length, ap, refl, subst}
+use Rattle.std.proofs.Common.{◌≡◌, ◌∙◌, ◌+◌, ◌++◌, ◌∷◌, [], rules, length, ap}
 use Rattle.dispatch_loop.specs.OptionsView.{OptionsView}
 use Rattle.threaded_run.proofs.Opened.{shared_is}
 use Rattle.threaded_run.proofs.opening.open_shared.Goals as goal

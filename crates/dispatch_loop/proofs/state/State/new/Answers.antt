@@ -15,7 +15,7 @@ returns-clause-fit g c =
     let start : c.reserve_orders.new.self.start ≡ o.start = ap (λ (z : JournalState). z.start) c.in_ok-reserve_orders.ensures.ok ∙ ap (λ (z : JournalState). z.start) c.in_ok-journal.ensures ∙ ap (λ (z : OptionsView). z.start) c.options.view_is in
     let cores : o.cores ≡ c.reserve_orders.new.self.start.cores = sym (ap (λ (z : TableView). z.cores) start ∙ c.requires.accepted.cores) in
     record {
-      cores = ap (λ (z : TableView). z.cores) (c.in_ok-desk.ensures.table ∙ ap (λ (z : OptionsView). z.start) c.options.view_is ∙ sym start);
+      cores = ap (λ (z : TableView). z.cores) (c.in_ok-routing.ensures.table ∙ ap (λ (z : OptionsView). z.start) c.options.view_is ∙ sym start);
       bases = ap (λ (z : LoadsView). length z.base) made.loads ∙ (length-replicate o.start.cores 0 ∙ ap (λ (z : TableView). z.cores) (sym start));
       policy_cores = ap (λ z. (stated z).cores) made.policy.1 ∙ (of_policy.cores ∙ cores);
       policy_buckets = ap (λ z. (stated z).buckets) made.policy.1 ∙ (of_policy.buckets ∙ ap (λ (z : TableView). length z.owners) (sym start));

@@ -1,5 +1,5 @@
 use Rattle.std.proofs.Common.{◌≡◌, ◌+◌, ◌-◌, ◌∙◌, sym, ap, subst, List, ℕ, [], ◌++◌, length, take, drop, min, false, arith, length-take, length-drop, rules}
-use Rattle.pcapng_reader.specs.Progress.{Told, Progress, tells, waits, waits_at, behind}
+use Rattle.pcapng_reader.specs.Progress.{Told, Progress, tells, awaits_block, waits_at, behind}
 use Rattle.pcapng_reader.specs.Stages.{kept_back}
 use Rattle.pcapng_reader.specs.Steps.{hands_on, hands_on_at}
 use Rattle.pcapng_reader.proofs.Stories.{empty_of}
@@ -13,10 +13,10 @@ returns-clause-given c = λ rest.
     let f = c.min-first.result in
     let count = c.min-count.result in
     let s = count - f in
-    let front = c.bytes-front.ensures in
-    let window = c.bytes.ensures in
+    let front = c.bytes-front.ensures.value in
+    let window = c.bytes.ensures.value in
     let into = c.copy_both.new.into in
-    let n = counts i.window i.ready i.held i.stage i.scope i.number p count f (length c.args.into.now) c.self.view_is c.self.invariant c.requires.waits
+    let n = counts i.window i.ready i.held i.stage i.scope i.number p count f (length c.args.into.now) c.self.view_is c.self.invariant c.requires.awaits_block
     (c.min-count.ensures ∙ ap (λ m. min (length c.args.into.now) m) (ap (λ (x : List ℕ). length x + i.held - c.kept_back.result) front ∙ ap (λ k. length i.ready + i.held - k) c.kept_back.ensures))
     (c.min-first.ensures ∙ ap (λ (x : List ℕ). min count (length x)) front) in
     let parts : take (length (take f i.ready) + length (take s i.window)) into ≡ take f i.ready ++ take s i.window =
@@ -35,10 +35,10 @@ returns-clause-none c = λ nought some rest.
     let s = c.min-count.result - f in
     let room = length c.args.into.now in
     let least : min room (length i.ready + i.held - kept_back i.stage) ≡ 0 =
-    sym (c.min-count.ensures ∙ ap (λ m. min room m) (ap (λ (x : List ℕ). length x + i.held - c.kept_back.result) c.bytes-front.ensures ∙ ap (λ k. length i.ready + i.held - k) c.kept_back.ensures)) ∙ nought in
+    sym (c.min-count.ensures ∙ ap (λ m. min room m) (ap (λ (x : List ℕ). length x + i.held - c.kept_back.result) c.bytes-front.ensures.value ∙ ap (λ k. length i.ready + i.held - k) c.kept_back.ensures)) ∙ nought in
     let long : length c.copy_both.new.into ≡ room = search rules in
     let front : length (take i.held i.window) ≡ i.held = simp length-take (omega (arith, c.self.invariant.within)) in
-    let still : waits_at i.stage (length i.ready + i.held) ≡ false = subst (λ h. waits_at i.stage (length i.ready + h) ≡ false) front (subst (λ (q : Progress). waits q ≡ false) (sym c.self.view_is) c.requires.waits) in
+    let still : waits_at i.stage (length i.ready + i.held) ≡ false = subst (λ h. waits_at i.stage (length i.ready + h) ≡ false) front (subst (λ (q : Progress). awaits_block q ≡ false) (sym c.self.view_is) c.requires.awaits_block) in
     let hands : hands_on_at i.stage i.ready ≡ false = subst (λ (q : Progress). hands_on q ≡ false) (sym c.self.view_is) c.requires.hands_on in
     let ahead : List ℕ = drop (i.held - s) c.consume-2.new.self in
     let none = gives_none i.stage i.scope i.number room i.held i.ready [] ahead rest still hands least (omega (arith, some, long)) in

@@ -12,7 +12,7 @@ pub returns-in-End : goal.returns-in-End
 returns-in-End c =
     let i = c.self.inside in
     let p = c.args.self.now in
-    let ahead = c.bytes.ensures ∙ whole_window i.window i.ready i.held i.stage i.scope i.number p c.self.view_is c.requires.none c.self.invariant.within in
+    let ahead = c.bytes.ensures.value ∙ whole_window i.window i.ready i.held i.stage i.scope i.number p c.self.view_is c.requires.none c.self.invariant.within in
     let scope : i.scope ≡ p.scope = ap (λ (p : Progress). p.scope) c.self.view_is in
     let number : i.number ≡ p.number = ap (λ (p : Progress). p.number) c.self.view_is in
     let look = subst (λ (s : Scope). Looks s p.number p.ahead c.args.ended c.look_at.result) scope (subst (λ n. Looks i.scope n p.ahead c.args.ended c.look_at.result) number (subst (λ (x : List ℕ). Looks i.scope i.number x c.args.ended c.look_at.result) ahead c.look_at.ensures)) in
@@ -23,7 +23,7 @@ pub returns-in-Breaks : goal.returns-in-Breaks
 returns-in-Breaks c =
     let i = c.self.inside in
     let p = c.args.self.now in
-    let ahead = c.bytes.ensures ∙ whole_window i.window i.ready i.held i.stage i.scope i.number p c.self.view_is c.requires.none c.self.invariant.within in
+    let ahead = c.bytes.ensures.value ∙ whole_window i.window i.ready i.held i.stage i.scope i.number p c.self.view_is c.requires.none c.self.invariant.within in
     let scope : i.scope ≡ p.scope = ap (λ (p : Progress). p.scope) c.self.view_is in
     let number : i.number ≡ p.number = ap (λ (p : Progress). p.number) c.self.view_is in
     let look = subst (λ (s : Scope). Looks s p.number p.ahead c.args.ended c.look_at.result) scope (subst (λ n. Looks i.scope n p.ahead c.args.ended c.look_at.result) number (subst (λ (x : List ℕ). Looks i.scope i.number x c.args.ended c.look_at.result) ahead c.look_at.ensures)) in
@@ -34,7 +34,7 @@ pub returns-in-Opens : goal.returns-in-Opens
 returns-in-Opens c =
     let i = c.self.inside in
     let p = c.args.self.now in
-    let ahead = c.bytes.ensures ∙ whole_window i.window i.ready i.held i.stage i.scope i.number p c.self.view_is c.requires.none c.self.invariant.within in
+    let ahead = c.bytes.ensures.value ∙ whole_window i.window i.ready i.held i.stage i.scope i.number p c.self.view_is c.requires.none c.self.invariant.within in
     let scope : i.scope ≡ p.scope = ap (λ (p : Progress). p.scope) c.self.view_is in
     let number : i.number ≡ p.number = ap (λ (p : Progress). p.number) c.self.view_is in
     let look = subst (λ (s : Scope). Looks s p.number p.ahead c.args.ended c.look_at.result) scope (subst (λ n. Looks i.scope n p.ahead c.args.ended c.look_at.result) number (subst (λ (x : List ℕ). Looks i.scope i.number x c.args.ended c.look_at.result) ahead c.look_at.ensures)) in

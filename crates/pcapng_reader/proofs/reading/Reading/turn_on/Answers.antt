@@ -14,7 +14,7 @@ returns-in-Breaks c =
     let i = c.self.inside in
     let p = c.args.self.now in
     let w = c.bytes.result.now in
-    let ahead : take (length w - i.held) (drop i.held w) ≡ p.ahead = take_all (length w - i.held) (drop i.held w) (simp length-drop (omega arith)) ∙ (ap (λ (x : List ℕ). drop i.held x) c.bytes.ensures ∙ ap (λ (p : Progress). p.ahead) c.self.view_is) in
+    let ahead : take (length w - i.held) (drop i.held w) ≡ p.ahead = take_all (length w - i.held) (drop i.held w) (simp length-drop (omega arith)) ∙ (ap (λ (x : List ℕ). drop i.held x) c.bytes.ensures.value ∙ ap (λ (p : Progress). p.ahead) c.self.view_is) in
     let number : i.number ≡ p.number = ap (λ (p : Progress). p.number) c.self.view_is in
     let turn = subst (λ n. Turns n c.args.block p.ahead c.args.ended c.next_turn.result) number (subst (λ (x : List ℕ). Turns i.number c.args.block x c.args.ended c.next_turn.result) ahead c.next_turn.ensures) in
     let fits = subst (λ (s : Stage). StageFits s p.scope p.number (length p.ready) (length p.held) (length p.ahead)) c.requires.inside (stage_fits i.window i.ready i.held i.stage i.scope i.number p c.self.view_is c.self.invariant) in
@@ -26,7 +26,7 @@ returns-in-Passes c =
     let i = c.self.inside in
     let p = c.args.self.now in
     let w = c.bytes.result.now in
-    let ahead : take (length w - i.held) (drop i.held w) ≡ p.ahead = take_all (length w - i.held) (drop i.held w) (simp length-drop (omega arith)) ∙ (ap (λ (x : List ℕ). drop i.held x) c.bytes.ensures ∙ ap (λ (p : Progress). p.ahead) c.self.view_is) in
+    let ahead : take (length w - i.held) (drop i.held w) ≡ p.ahead = take_all (length w - i.held) (drop i.held w) (simp length-drop (omega arith)) ∙ (ap (λ (x : List ℕ). drop i.held x) c.bytes.ensures.value ∙ ap (λ (p : Progress). p.ahead) c.self.view_is) in
     let turn = subst (λ (x : List ℕ). Turns i.number c.args.block x c.args.ended c.next_turn.result) ahead c.next_turn.ensures in
     subst (λ (q : Progress). Stands p q c.args.ended false) (sym c.pass.ensures)
     (passes_turn p c.args.block c.args.ended c.in-Passes.count c.in-Passes.adds c.requires.inside (subst (λ (t : Turn). Turns i.number c.args.block p.ahead c.args.ended t) c.in-Passes.is turn))
@@ -36,7 +36,7 @@ returns-in-Whole c =
     let i = c.self.inside in
     let p = c.args.self.now in
     let w = c.bytes.result.now in
-    let ahead : take (length w - i.held) (drop i.held w) ≡ p.ahead = take_all (length w - i.held) (drop i.held w) (simp length-drop (omega arith)) ∙ (ap (λ (x : List ℕ). drop i.held x) c.bytes.ensures ∙ ap (λ (p : Progress). p.ahead) c.self.view_is) in
+    let ahead : take (length w - i.held) (drop i.held w) ≡ p.ahead = take_all (length w - i.held) (drop i.held w) (simp length-drop (omega arith)) ∙ (ap (λ (x : List ℕ). drop i.held x) c.bytes.ensures.value ∙ ap (λ (p : Progress). p.ahead) c.self.view_is) in
     let turn = subst (λ (x : List ℕ). Turns i.number c.args.block x c.args.ended c.next_turn.result) ahead c.next_turn.ensures in
     let fits = subst (λ (s : Stage). StageFits s p.scope p.number (length p.ready) (length p.held) (length p.ahead)) c.requires.inside (stage_fits i.window i.ready i.held i.stage i.scope i.number p c.self.view_is c.self.invariant) in
     subst (λ (q : Progress). Stands p q c.args.ended false) (sym c.close.ensures)

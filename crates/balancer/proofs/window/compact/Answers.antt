@@ -1,7 +1,0 @@
-use Rattle.std.proofs.Common.{◌∙◌, ◌-◌, take, ap}
-use Rattle.balancer.proofs.Buffers.{moved_front}
-use Rattle.balancer.proofs.window.compact.Goals as goal
-
-pub returns-clause-front : goal.returns-clause-front
-returns-clause-front c =
-    ap (λ w. take (c.args.end - c.args.start) w) c.copy_within.ensures.items ∙ moved_front c.args.buffer.now.items c.args.start c.args.end c.requires.order c.requires.within
