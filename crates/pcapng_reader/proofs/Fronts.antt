@@ -9,7 +9,7 @@ use Rattle.pcapng_reader.specs.Numbers.{number_at}
 use Rattle.pcapng_reader.specs.Options.{padded}
 use Rattle.pcapng_reader.specs.Scope.{Scope}
 use Rattle.pcapng_reader.specs.Front.{is_section, kind_of, order_in, total_length, least_total, looked_at, is_record, interface_named, bytes_at, captured_of}
-use Rattle.pcapng_reader.specs.Breaks.{Row, first_row, frame_rows, section_rows, record_rows, record_break, front_break, is_kind_description}
+use Rattle.pcapng_reader.specs.Breaks.{Row, first_row, frame_rows, section_rows, record_rows, record_break, front_break, is_bad_link, is_kind_description}
 use Rattle.pcapng_reader.proofs.Stories.{no_row, neither, later_rows, second, not_below}
 
 -- the three parts of a sound front
@@ -54,22 +54,32 @@ sound_named scope n front kind h k r none =
     let bad = subst (λ (o : Option Interface). record_break n scope.link kind scope.order o front ≡ None) none named in
     cc
 
+-- no row of the table of a record of an interface applies
+pub sound_rows : (scope : Scope) (n : ℕ) (front : List ℕ) (kind : BlockKind) (interface : Interface) → front_break scope n front ≡ None → kind_of scope.order front ≡ kind → is_record kind ≡ true →
+    slice_get scope.interfaces (interface_named kind scope.order front) ≡ Some interface → first_row n (record_rows scope.link kind scope.order interface front) ≡ None
+sound_rows scope n front kind interface h k r some =
+    let part = subst (λ (kind : BlockKind). (if is_record kind then record_break n scope.link kind scope.order (slice_get scope.interfaces (interface_named kind scope.order front)) front else None) ≡ None) k (sound_parts scope n front h).2 in
+    let named : record_break n scope.link kind scope.order (slice_get scope.interfaces (interface_named kind scope.order front)) front ≡ None = rw r at part in
+    subst (λ (o : Option Interface). record_break n scope.link kind scope.order o front ≡ None) some named
+
 -- the captured bytes of a record of an interface are no more than the limit, and have room
 pub sound_record : (scope : Scope) (n : ℕ) (front : List ℕ) (kind : BlockKind) (interface : Interface) → front_break scope n front ≡ None → kind_of scope.order front ≡ kind → is_record kind ≡ true →
     slice_get scope.interfaces (interface_named kind scope.order front) ≡ Some interface →
     (captured_of kind scope.order interface front ≤ 262_144) × (bytes_at kind + captured_of kind scope.order interface front + 4 ≤ number_at scope.order 4 4 front)
 sound_record scope n front kind interface h k r some =
-    let part = subst (λ (kind : BlockKind). (if is_record kind then record_break n scope.link kind scope.order (slice_get scope.interfaces (interface_named kind scope.order front)) front else None) ≡ None) k (sound_parts scope n front h).2 in
-    let named : record_break n scope.link kind scope.order (slice_get scope.interfaces (interface_named kind scope.order front)) front ≡ None = rw r at part in
-    let sound : first_row n (record_rows scope.link kind scope.order interface front) ≡ None = subst (λ (o : Option Interface). record_break n scope.link kind scope.order o front ≡ None) some named in
     let rows : List Row = record_rows scope.link kind scope.order interface front in
-    let linked = no_row n rows sound in
+    let linked = no_row n rows (sound_rows scope n front kind interface h k r some) in
     let limited = no_row n (later_rows rows) linked.1 in
     let fits = no_row n (later_rows (later_rows rows)) limited.1 in
     let captured : ℕ = captured_of kind scope.order interface front in
     let room : bytes_at kind + padded captured + 4 ≤ number_at scope.order 4 4 front = not_below (number_at scope.order 4 4 front) (bytes_at kind + padded captured + 4) fits.0 in
     let more : captured ≤ padded captured = omega arith in
     (not_below 262_144 captured limited.0, omega (arith, room, more))
+
+-- the link of a record's interface may be read behind the records before
+pub sound_link : (scope : Scope) (n : ℕ) (front : List ℕ) (kind : BlockKind) (interface : Interface) → front_break scope n front ≡ None → kind_of scope.order front ≡ kind → is_record kind ≡ true →
+    slice_get scope.interfaces (interface_named kind scope.order front) ≡ Some interface → is_bad_link scope.link interface.link ≡ false
+sound_link scope n front kind interface h k r some = (no_row n (record_rows scope.link kind scope.order interface front) (sound_rows scope n front kind interface h k r some)).0
 
 -- a block that is no section header is in the byte order of its section
 pub same_order : (order : ByteOrder) (front : List ℕ) → is_section front ≡ false → order_in order front ≡ order

@@ -88,7 +88,8 @@ description_after scope bytes h =
           ∙ ap (λ (o : ByteOrder). record { order = scope.order; interfaces = scope.interfaces ++ interface o ∷ []; link = scope.link }) order,
     )
 
-no_link : (link : Option ℕ) → link_with link [] ≡ link
+-- a block without packets tells no link
+pub no_link : (link : Option ℕ) → link_with link [] ≡ link
 no_link None = refl
 no_link (Some l) = refl
 

@@ -7,6 +7,7 @@ pub mod Input
 pub mod Listing
 pub mod Named
 pub mod Notes
+pub mod Packets
 pub mod Plan
 pub mod Reports
 pub mod Run

@@ -11,6 +11,7 @@
 mod demo;
 mod fault;
 mod input;
+mod laws;
 mod listing;
 mod modes;
 mod named;
@@ -27,6 +28,7 @@ use bucket_table::{FLOW_HASH_KEY_BYTES, FlowHashKey};
 pub use command_words::{Command, Mode, OptionName, WordFault, read_words};
 pub use demo::serial_demo;
 pub use fault::TopFault;
+pub use laws::pcapng_inputs_are_captures;
 pub use modes::{hash_listing, make_capture, plan};
 pub use named::{OnePacket, report_one_packet};
 pub use notes::fault_line;
