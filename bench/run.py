@@ -178,6 +178,9 @@ class Bench:
             print(f"\n== Runs over {path.stem}")
             self.is_same_report(path)
             rows = [(words, [self.program, "report", *words.split()], path) for words in RUNS]
+            if self.before:
+                for words in ("--serial 0", "--cores 4"):
+                    rows.append((f"older {words}", [self.before, "report", *words.split()], path))
             times(rows + self.yardsticks(path), self.runs)
 
     def memory(self):
