@@ -55,6 +55,9 @@ pub const LINK_RAW: u16 = 101;
 /// Nanoseconds in a second.
 pub const NANOS_PER_SECOND: u64 = 1_000_000_000;
 
+/// Nanoseconds in a microsecond.
+pub const NANOS_PER_MICRO: u64 = 1_000;
+
 /// The greatest time that a record of a classic capture can tell, in nanoseconds.
 pub const LATEST: u64 = 4_294_967_295_999_999_999;
 

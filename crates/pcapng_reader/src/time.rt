@@ -2,7 +2,7 @@
 ghost use Rattle.std.specs.Prelude.{◌≡◌, ◌<◌, ◌≤◌, ◌^◌, ◌*◌, ◌/◌};
 ghost use Rattle.pcapng_reader.specs.Time.{units, nanos_of};
 
-use crate::format::{LATEST, NANOS_PER_SECOND, POWERS_OF_TWO};
+use crate::format::{LATEST, MICROSECONDS, NANOS_PER_MICRO, NANOS_PER_SECOND, POWERS_OF_TWO};
 
 // A power of ten from this one on is above all times in nanoseconds.
 const MANY_DIGITS: u8 = 29;
@@ -21,10 +21,14 @@ fn whole_nanos(ticks: u64, resolution: u8) -> u128
     }
 }
 
-/// So many units of time in nanoseconds, as far as a classic capture can tell.
+/// So many units of time in nanoseconds, as far as a classic capture can tell. Most captures count
+/// microseconds, for which nothing has to be divided.
 pub fn nanos_by(ticks: u64, resolution: u8) -> u64
     ensures value { result ≡ nanos_of ticks resolution }
     ensures within { result ≤ LATEST }
 {
+    if resolution == MICROSECONDS && ticks <= LATEST / NANOS_PER_MICRO {
+        return ticks * NANOS_PER_MICRO;
+    }
     whole_nanos(ticks, resolution).min(u128::from(LATEST)) as u64
 }
