@@ -7,6 +7,7 @@ use Rattle.pcapng_reader.specs.declared.stage.Stage.{Stage}
 use Rattle.pcapng_reader.specs.declared.stage.Stage.TheVariants.{Plain, Between, Inside, Broken, Ended}
 use Rattle.pcapng_reader.specs.Classic.{is_pcapng, break_of}
 use Rattle.pcapng_reader.specs.Progress.{Told, told_of, behind, told_at, Progress, tells, known, text_known, StaysTold, GivesTold}
+use Rattle.pcapng_reader.specs.Stages.{break_at}
 use Rattle.pcapng_reader.specs.Steps.{hands_on, Stands}
 use Rattle.pcapng_reader.specs.Lent.{classic_known, told_known, TakesUpToFour, HandsOn, SameBreak}
 use Rattle.pcapng_reader.proofs.Stories.{empty_of}
@@ -154,6 +155,22 @@ pub stays_keeps : (a b : Option Told) → StaysTold a b → Keeps (text_known a)
 stays_keeps None b h = tt
 stays_keeps (Some t) None h = absurd h
 stays_keeps (Some t) (Some u) h = ap (λ (x : Told). x.text) h
+
+found_stage : (s : Stage) (e : NgBreak) → break_at s ≡ Some e → s ≡ Broken e
+found_stage (Broken x) e h = cc
+found_stage Plain e h = cc
+found_stage (Between skip) e h = cc
+found_stage (Inside block) e h = cc
+found_stage Ended e h = cc
+
+-- a break that was found is the first one
+pub found_known : (p : Progress) (begun left : Option (List ℕ)) (bytes : List ℕ) (e : NgBreak) → SameBreak (told_known begun) (known p left) → begun ≡ Some bytes → break_at p.stage ≡ Some e → break_of bytes ≡ Some e
+found_known p None left bytes e s b h = cc
+found_known p (Some x) None bytes e s b h = absurd s
+found_known p (Some x) (Some rest) bytes e s b h =
+    let same : x ≡ bytes = cc in
+    let told = ap (λ (t : Told). t.broken) (tells_at p (Broken e) rest (found_stage p.stage e h)) in
+    sym (s ∙ ap break_of same) ∙ told
 
 -- the first break, once nothing is left
 pub broken_known : (p : Progress) (begun left : Option (List ℕ)) (bytes : List ℕ) (found : Option NgBreak) → SameBreak (told_known begun) (known p left) → begun ≡ Some bytes → IsAtEnd (text_known (known p left)) →

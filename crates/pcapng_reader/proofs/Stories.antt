@@ -9,7 +9,7 @@ use Rattle.pcapng_reader.specs.declared.fault.NgBreak.{NgBreak}
 use Rattle.pcapng_reader.specs.Scope.{Scope}
 use Rattle.pcapng_reader.specs.Front.{kind_of, total_length, least_total}
 use Rattle.pcapng_reader.specs.Breaks.{Row, first_row, earlier_break, frame_rows, front_break, rest_rows, first_break}
-use Rattle.pcapng_reader.specs.Blocks.{Packet, Story, extent, packets_in, scope_after, before, unless, story_from, story_at, story_of, at_first}
+use Rattle.pcapng_reader.specs.Blocks.{Packet, Story, extent, block_packets, scope_after, before, unless, story_from, story_at, story_of, at_first}
 use Rattle.pcapng_reader.specs.Reading.{Begins, TailEnds, Reads}
 
 abbrev pub first_applies : List Row → Bool
@@ -66,7 +66,7 @@ whole_block scope n bytes h =
     (omega (arith, least, above), not_below (length bytes) total there.0)
 
 -- the story of some bytes is that of their first block, and then the rest
-pub story_step : (k : ℕ) (scope : Scope) (n : ℕ) (bytes : List ℕ) → 0 < length bytes → story_from (suc k) scope n bytes ≡ unless (first_break scope n bytes) (before (packets_in scope bytes) (story_from k (scope_after scope bytes) (n + 1) (drop (extent scope.order bytes) bytes)))
+pub story_step : (k : ℕ) (scope : Scope) (n : ℕ) (bytes : List ℕ) → 0 < length bytes → story_from (suc k) scope n bytes ≡ unless (first_break scope n bytes) (before (block_packets scope bytes) (story_from k (scope_after scope bytes) (n + 1) (drop (extent scope.order bytes) bytes)))
 unfolding story_from
 story_step k scope n [] h = absurd (omega arith)
 story_step k scope n (b ∷ bs) h = refl
@@ -93,7 +93,7 @@ one_story_from (suc k) scope n bytes [] packets last tail (Some e) a b t =
     let same : length tail ≡ length bytes = ap length b.2 in
     let broken : first_break scope n bytes ≡ Some e =
     ap (λ (w : List ℕ). first_break scope n w) (sym b.2) ∙ (ap (λ (s : Scope). first_break s n tail) (sym b.1) ∙ (ap (λ m. first_break last m tail) (sym add_none) ∙ t.1)) in
-    story_step k scope n bytes (omega (arith, same, t.0)) ∙ (ap (λ (o : Option NgBreak). unless o (before (packets_in scope bytes) (story_from k (scope_after scope bytes) (n + 1) (drop (extent scope.order bytes) bytes)))) broken
+    story_step k scope n bytes (omega (arith, same, t.0)) ∙ (ap (λ (o : Option NgBreak). unless o (before (block_packets scope bytes) (story_from k (scope_after scope bytes) (n + 1) (drop (extent scope.order bytes) bytes)))) broken
     ∙ ap (λ (ps : List Packet). made ps (Some e)) (sym b.0))
   where
     add_none : n + 0 ≡ n
@@ -110,9 +110,9 @@ one_story_from (suc k) scope n bytes (block ∷ blocks) packets last tail ending
     let shift : n + suc (length blocks) ≡ (n + 1) + length blocks = omega arith in
     let later = one_story_from k (scope_after scope bytes) (n + 1) rest blocks b.1 last tail ending (omega arith) b.5 (subst (λ m. TailEnds last m tail ending) shift t) in
     story_step k scope n bytes (omega arith)
-    ∙ (ap (λ (o : Option NgBreak). unless o (before (packets_in scope bytes) (story_from k (scope_after scope bytes) (n + 1) (drop (extent scope.order bytes) bytes)))) b.3.sound
-    ∙ (ap (λ (w : List ℕ). before (packets_in scope bytes) (story_from k (scope_after scope bytes) (n + 1) w)) behind
-    ∙ (ap (λ (s : Story). before (packets_in scope bytes) s) later ∙ ap (λ (ps : List Packet). made ps ending) (sym b.4))))
+    ∙ (ap (λ (o : Option NgBreak). unless o (before (block_packets scope bytes) (story_from k (scope_after scope bytes) (n + 1) (drop (extent scope.order bytes) bytes)))) b.3.sound
+    ∙ (ap (λ (w : List ℕ). before (block_packets scope bytes) (story_from k (scope_after scope bytes) (n + 1) w)) behind
+    ∙ (ap (λ (s : Story). before (block_packets scope bytes) s) later ∙ ap (λ (ps : List Packet). made ps ending) (sym b.4))))
 
 abbrev ReadFrom : Scope → ℕ → List ℕ → Story → Type 0
 ReadFrom scope n bytes story =
@@ -134,7 +134,7 @@ each_story_from (suc k) scope n (b ∷ bs) a =
   where
     by_break : (k : ℕ) (scope : Scope) (n : ℕ) (bytes : List ℕ) → length bytes ≤ suc k → 0 < length bytes → (o : Option NgBreak) → first_break scope n bytes ≡ o →
         (length (drop (extent scope.order bytes) bytes) ≤ k → ReadFrom (scope_after scope bytes) (n + 1) (drop (extent scope.order bytes) bytes) (story_from k (scope_after scope bytes) (n + 1) (drop (extent scope.order bytes) bytes))) →
-        ReadFrom scope n bytes (unless o (before (packets_in scope bytes) (story_from k (scope_after scope bytes) (n + 1) (drop (extent scope.order bytes) bytes))))
+        ReadFrom scope n bytes (unless o (before (block_packets scope bytes) (story_from k (scope_after scope bytes) (n + 1) (drop (extent scope.order bytes) bytes))))
     by_break k scope n bytes a some (Some e) h later =
         let add_none : n ≡ n + 0 = omega arith in
         ([], scope, bytes, (refl, refl, refl), (some, subst (λ m. first_break scope m bytes ≡ Some e) add_none h))

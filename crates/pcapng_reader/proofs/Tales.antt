@@ -3,7 +3,7 @@ use Rattle.std.proofs.Common.{◌≡◌, ℕ, zero, suc, ◌+◌, ◌-◌, ◌�
 use Rattle.pcapng_reader.specs.declared.fault.NgBreak.{NgBreak}
 use Rattle.pcapng_reader.specs.Scope.{Scope}
 use Rattle.pcapng_reader.specs.Breaks.{first_break}
-use Rattle.pcapng_reader.specs.Blocks.{Story, extent, packets_in, scope_after, before, unless, story_from, story_at}
+use Rattle.pcapng_reader.specs.Blocks.{Story, extent, block_packets, scope_after, before, unless, story_from, story_at}
 use Rattle.pcapng_reader.proofs.Stories.{whole_block, story_step, story_end}
 
 -- the bound on the blocks doesn't matter where it is large enough
@@ -20,8 +20,8 @@ same_story (suc k) (suc m) scope n (x ∷ xs) a b =
     by_break : (o : Option NgBreak) → first_break scope n (x ∷ xs) ≡ o →
         (length (drop (extent scope.order (x ∷ xs)) (x ∷ xs)) ≤ k → length (drop (extent scope.order (x ∷ xs)) (x ∷ xs)) ≤ m →
         story_from k (scope_after scope (x ∷ xs)) (n + 1) (drop (extent scope.order (x ∷ xs)) (x ∷ xs)) ≡ story_from m (scope_after scope (x ∷ xs)) (n + 1) (drop (extent scope.order (x ∷ xs)) (x ∷ xs))) →
-        unless (first_break scope n (x ∷ xs)) (before (packets_in scope (x ∷ xs)) (story_from k (scope_after scope (x ∷ xs)) (n + 1) (drop (extent scope.order (x ∷ xs)) (x ∷ xs))))
-        ≡ unless (first_break scope n (x ∷ xs)) (before (packets_in scope (x ∷ xs)) (story_from m (scope_after scope (x ∷ xs)) (n + 1) (drop (extent scope.order (x ∷ xs)) (x ∷ xs))))
+        unless (first_break scope n (x ∷ xs)) (before (block_packets scope (x ∷ xs)) (story_from k (scope_after scope (x ∷ xs)) (n + 1) (drop (extent scope.order (x ∷ xs)) (x ∷ xs))))
+        ≡ unless (first_break scope n (x ∷ xs)) (before (block_packets scope (x ∷ xs)) (story_from m (scope_after scope (x ∷ xs)) (n + 1) (drop (extent scope.order (x ∷ xs)) (x ∷ xs))))
     by_break (Some e) h later = rw h refl
     by_break None h later =
         let bytes : List ℕ = x ∷ xs in
@@ -29,36 +29,36 @@ same_story (suc k) (suc m) scope n (x ∷ xs) a b =
         let rest : List ℕ = drop (extent scope.order bytes) bytes in
         let short : length rest ≤ k = simp length-drop (omega (arith, size.0)) in
         let shorter : length rest ≤ m = simp length-drop (omega (arith, size.0)) in
-        ap (λ (s : Story). unless (first_break scope n bytes) (before (packets_in scope bytes) s)) (later short shorter)
+        ap (λ (s : Story). unless (first_break scope n bytes) (before (block_packets scope bytes) s)) (later short shorter)
 
 -- the story of a block and what follows
 pub story_at-step : (scope : Scope) (n : ℕ) (bytes : List ℕ) → 0 < length bytes →
-    story_at scope n bytes ≡ unless (first_break scope n bytes) (before (packets_in scope bytes) (story_at (scope_after scope bytes) (n + 1) (drop (extent scope.order bytes) bytes)))
+    story_at scope n bytes ≡ unless (first_break scope n bytes) (before (block_packets scope bytes) (story_at (scope_after scope bytes) (n + 1) (drop (extent scope.order bytes) bytes)))
 unfolding story_at
 story_at-step scope n bytes some = by_break (first_break scope n bytes) refl
   where
     j : ℕ
     j = length bytes - 1
 
-    step : story_from (length bytes) scope n bytes ≡ unless (first_break scope n bytes) (before (packets_in scope bytes) (story_from (length bytes - 1) (scope_after scope bytes) (n + 1) (drop (extent scope.order bytes) bytes)))
+    step : story_from (length bytes) scope n bytes ≡ unless (first_break scope n bytes) (before (block_packets scope bytes) (story_from (length bytes - 1) (scope_after scope bytes) (n + 1) (drop (extent scope.order bytes) bytes)))
     step =
         let all : length bytes ≡ suc (length bytes - 1) = omega (arith, some) in
         ap (λ k. story_from k scope n bytes) all ∙ story_step (length bytes - 1) scope n bytes some
 
     by_break : (o : Option NgBreak) → first_break scope n bytes ≡ o → story_from (length bytes) scope n bytes
-        ≡ unless (first_break scope n bytes) (before (packets_in scope bytes) (story_from (length (drop (extent scope.order bytes) bytes)) (scope_after scope bytes) (n + 1) (drop (extent scope.order bytes) bytes)))
+        ≡ unless (first_break scope n bytes) (before (block_packets scope bytes) (story_from (length (drop (extent scope.order bytes) bytes)) (scope_after scope bytes) (n + 1) (drop (extent scope.order bytes) bytes)))
     by_break (Some e) h = step ∙ rw h refl
     by_break None h =
         let size = whole_block scope n bytes h in
         let rest : List ℕ = drop (extent scope.order bytes) bytes in
         let short : length rest ≤ length bytes - 1 = simp length-drop (omega (arith, size.0, some)) in
-        step ∙ ap (λ (s : Story). unless (first_break scope n bytes) (before (packets_in scope bytes) s)) (same_story (length bytes - 1) (length rest) (scope_after scope bytes) (n + 1) rest short (omega arith))
+        step ∙ ap (λ (s : Story). unless (first_break scope n bytes) (before (block_packets scope bytes) s)) (same_story (length bytes - 1) (length rest) (scope_after scope bytes) (n + 1) rest short (omega arith))
 
 -- the story of a broken block
 pub story_at-broken : (scope : Scope) (n : ℕ) (bytes : List ℕ) (e : NgBreak) → 0 < length bytes → first_break scope n bytes ≡ Some e → story_at scope n bytes ≡ record { packets = []; broken = Some e }
 story_at-broken scope n bytes e some h =
     story_at-step scope n bytes some
-    ∙ ap (λ (o : Option NgBreak). unless o (before (packets_in scope bytes) (story_at (scope_after scope bytes) (n + 1) (drop (extent scope.order bytes) bytes)))) h
+    ∙ ap (λ (o : Option NgBreak). unless o (before (block_packets scope bytes) (story_at (scope_after scope bytes) (n + 1) (drop (extent scope.order bytes) bytes)))) h
 
 pub story_at-end : (scope : Scope) (n : ℕ) → story_at scope n [] ≡ record { packets = []; broken = None }
 unfolding story_at

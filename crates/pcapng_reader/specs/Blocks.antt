@@ -49,13 +49,13 @@ abbrev pub record_of : BlockKind → Scope → List ℕ → List Packet
 record_of kind scope bytes = packet_by kind scope.order (slice_get scope.interfaces (interface_named kind scope.order (take 28 bytes))) bytes
 
 -- the packets of a whole block: one of a record, and else none
-abbrev pub packets_by : BlockKind → Scope → List ℕ → List Packet
-packets_by Simple scope bytes = record_of Simple scope bytes
-packets_by Enhanced scope bytes = record_of Enhanced scope bytes
-packets_by _ scope bytes = []
+abbrev pub block_packets_by : BlockKind → Scope → List ℕ → List Packet
+block_packets_by Simple scope bytes = record_of Simple scope bytes
+block_packets_by Enhanced scope bytes = record_of Enhanced scope bytes
+block_packets_by _ scope bytes = []
 
-unfoldable pub packets_in : Scope → List ℕ → List Packet
-packets_in scope bytes = packets_by (kind_of scope.order (take 28 bytes)) scope bytes
+unfoldable pub block_packets : Scope → List ℕ → List Packet
+block_packets scope bytes = block_packets_by (kind_of scope.order (take 28 bytes)) scope bytes
 
 -- the link of the first packet, if there is one
 abbrev pub link_with : Option ℕ → List Packet → Option ℕ
@@ -67,7 +67,7 @@ link_with None (p ∷ ps) = Some p.link
 abbrev pub after_by : BlockKind → Scope → List ℕ → Scope
 after_by Section scope bytes = record { order = order_in scope.order (take 28 bytes); interfaces = []; link = scope.link }
 after_by Description scope bytes = record { order = scope.order; interfaces = scope.interfaces ++ described scope.order bytes ∷ []; link = scope.link }
-after_by kind scope bytes = record { order = scope.order; interfaces = scope.interfaces; link = link_with scope.link (packets_by kind scope bytes) }
+after_by kind scope bytes = record { order = scope.order; interfaces = scope.interfaces; link = link_with scope.link (block_packets_by kind scope bytes) }
 
 unfoldable pub scope_after : Scope → List ℕ → Scope
 scope_after scope bytes = after_by (kind_of scope.order (take 28 bytes)) scope bytes
@@ -92,7 +92,7 @@ story_from zero scope n bytes = record { packets = []; broken = None }
 story_from (suc most) scope n [] = record { packets = []; broken = None }
 story_from (suc most) scope n (b ∷ bs) =
     unless (first_break scope n (b ∷ bs))
-    (before (packets_in scope (b ∷ bs)) (story_from most (scope_after scope (b ∷ bs)) (n + 1) (drop (extent scope.order (b ∷ bs)) (b ∷ bs))))
+    (before (block_packets scope (b ∷ bs)) (story_from most (scope_after scope (b ∷ bs)) (n + 1) (drop (extent scope.order (b ∷ bs)) (b ∷ bs))))
 
 -- the story from a block on: each block takes at least one byte
 unfoldable pub story_at : Scope → ℕ → List ℕ → Story

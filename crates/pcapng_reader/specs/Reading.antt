@@ -3,7 +3,7 @@ use Rattle.std.specs.Prelude.{◌≡◌, ◌<◌, ℕ, ◌+◌, List, [], ◌∷
 use Rattle.pcapng_reader.specs.declared.fault.NgBreak.{NgBreak}
 use Rattle.pcapng_reader.specs.Scope.{Scope}
 use Rattle.pcapng_reader.specs.Breaks.{first_break}
-use Rattle.pcapng_reader.specs.Blocks.{Packet, extent, packets_in, scope_after, at_first}
+use Rattle.pcapng_reader.specs.Blocks.{Packet, extent, block_packets, scope_after, at_first}
 
 -- block n stands whole at the front of these bytes, and nothing breaks it
 pub record IsBlock (scope : Scope) (n : ℕ) (bytes block : List ℕ) : Type 0 where
@@ -15,7 +15,7 @@ pub record IsBlock (scope : Scope) (n : ℕ) (bytes block : List ℕ) : Type 0 w
 abbrev pub Begins : Scope → ℕ → List ℕ → List (List ℕ) → List Packet → Scope → List ℕ → Type 0
 Begins scope n bytes [] packets last tail = (packets ≡ []) × (last ≡ scope) × (tail ≡ bytes)
 Begins scope n bytes (block ∷ blocks) packets last tail =
-    (rest : List ℕ) × (later : List Packet) × (bytes ≡ block ++ rest) × IsBlock scope n bytes block × (packets ≡ packets_in scope bytes ++ later)
+    (rest : List ℕ) × (later : List Packet) × (bytes ≡ block ++ rest) × IsBlock scope n bytes block × (packets ≡ block_packets scope bytes ++ later)
     × Begins (scope_after scope bytes) (n + 1) rest blocks later last tail
 
 -- block n doesn't stand in the tail: nothing is there, or it breaks so

@@ -10,7 +10,7 @@ use std::alloc::Global;
 use std::marker::Model;
 use std::snapshot::Snapshot;
 
-/// The beginning of an input, whose first four bytes were read. Contracts see it as an `Opening`
+/// The beginning of an input, of which up to four bytes were read. Contracts see it as an `Opening`
 /// (`specs/Lent.antt`).
 #[derive(Drop)]
 pub struct NgOpening<S> {

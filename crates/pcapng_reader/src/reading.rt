@@ -213,7 +213,12 @@ impl Reading {
         requires fits { (others held : ℕ) → AddsFit block.adds others held → AddsFit adds others held }
         ensures { self.new ≡ passed_over block count adds self.old }
     {
-        self.window.cut(self.held, count);
+        // Where no packet's bytes are held, none has to be moved.
+        if self.held == 0 {
+            self.window.consume(count);
+        } else {
+            self.window.cut(self.held, count);
+        }
         self.stage = Stage::Inside(Block {
             order: block.order,
             total: block.total,

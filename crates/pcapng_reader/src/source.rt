@@ -95,8 +95,9 @@ fn read_on<S: Source>(
 }
 
 impl<'a, S: Source> NgSource<'a, S> {
-    /// Takes all its memory, and then reads up to four bytes of the source. `NoMemory` comes before any
-    /// read, and `ReadFault` where a read failed: [`NgOpening::read`] says what the source is then.
+    /// Takes all its memory, and then reads up to four bytes of the source: [`NgOpening::read`], whose
+    /// clauses say which error comes and what the source is then. Those of this call say nothing of an
+    /// error.
     pub fn start(alloc: Global, source: &'a mut S) -> Result<NgSource<'a, S>, NgError>
         ensures left { IfOk result (λ ng. Keeps (classic_known (S.left source.old)) (⟦<NgSource<'a, S> as Source>⟧.left ng)) }
         ensures faults { IfOk result (λ ng. ⟦<NgSource<'a, S> as Source>⟧.faults ng ≡ S.faults source.old) }
@@ -147,6 +148,7 @@ impl<'a, S: Source> NgSource<'a, S> {
     /// behind at most four bytes.
     pub fn broken(&self) -> Option<NgBreak>
         ensures value { result ≡ break_at self.now.progress.stage }
+        ensures found { (bytes : List ℕ) (e : NgBreak) → S.left self.now.begun ≡ Some bytes → result ≡ Some e → break_of bytes ≡ Some e }
         ensures broken { (bytes : List ℕ) → S.left self.now.begun ≡ Some bytes → IsAtEnd (⟦<NgSource<'a, S> as Source>⟧.left self.now) → result ≡ break_of bytes }
         ensures none { IsAtEnd (⟦<NgSource<'a, S> as Source>⟧.left self.now) → result ≡ None → IsAtEnd (S.left self.now.source.now) }
         ensures plain { (bytes : List ℕ) → S.left self.now.begun ≡ Some bytes → is_pcapng bytes ≡ false → TakesUpToFour (⟦<NgSource<'a, S> as Source>⟧.left self.now) (S.left self.now.source.now) }

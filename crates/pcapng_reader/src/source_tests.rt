@@ -136,25 +136,44 @@ fn a_reading_goes_on_behind_each_failed_read(rt: HostRuntime) -> Result<(), Fail
 #[test]
 fn a_failed_first_read_is_answered(rt: HostRuntime) -> Result<(), Fail> {
     let alloc = rt.alloc();
-    let bytes = bytes_of(alloc, "0a0d0d0a")?;
-    let mut source = MemorySource::new(bytes, vec![in alloc; 1]?, vec![in alloc; 3]?);
-    assert!(rt; matches!(NgSource::start(alloc, &mut source), Err(NgError::ReadFault)));
+    for call in 1..5 {
+        let bytes = bytes_of(alloc, "0a0d0d0a")?;
+        let mut source = MemorySource::new(bytes, vec![in alloc; 1]?, vec![in alloc; call]?);
+        assert!(rt; matches!(NgSource::start(alloc, &mut source), Err(NgError::ReadFault)));
+    }
     Ok(())
+}
+
+// A section header, and 257 times the same interface.
+fn many_interfaces(alloc: Global, section: &str, interface: &str) -> Result<Vec<u8>, Fail> {
+    let mut bytes = bytes_of(alloc, section)?;
+    let interface = bytes_of(alloc, interface)?;
+    for _ in 0..257 {
+        bytes.extend_from_slice(&interface)?;
+    }
+    Ok(bytes)
 }
 
 #[test]
 fn interface_256_breaks_a_section(rt: HostRuntime) -> Result<(), Fail> {
     let alloc = rt.alloc();
-    let mut bytes = bytes_of(
-        alloc,
-        "0a0d0d0a1c0000004d3c2b1a01000000ffffffffffffffff1c000000",
-    )?;
-    let interface = bytes_of(alloc, "0100000014000000010000000000040014000000")?;
-    for _ in 0..257 {
-        bytes.extend_from_slice(&interface)?;
+    let orders = [
+        (
+            "0a0d0d0a1c0000004d3c2b1a01000000ffffffffffffffff1c000000",
+            "0100000014000000010000000000040014000000",
+        ),
+        (
+            "0a0d0d0a0000001c1a2b3c4d00010000ffffffffffffffff0000001c",
+            "0000000100000014000100000004000000000014",
+        ),
+    ];
+    for (section, interface) in orders {
+        for cut in [1000, 1, 7] {
+            let bytes = many_interfaces(alloc, section, interface)?;
+            let (given, found) = read_all(alloc, bytes, vec![in alloc; cut]?, Vec::new(alloc))?;
+            assert!(rt; given == bytes_of(alloc, NONE)?);
+            assert!(rt; found == broken(257, NgKind::Interfaces, 256));
+        }
     }
-    let (given, found) = read_all(alloc, bytes, Vec::new(alloc), Vec::new(alloc))?;
-    assert!(rt; given == bytes_of(alloc, NONE)?);
-    assert!(rt; found == broken(257, NgKind::Interfaces, 256));
     Ok(())
 }

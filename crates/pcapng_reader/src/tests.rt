@@ -1,7 +1,7 @@
 use crate::breaks::front_break_at;
 use crate::scope::Scope;
 use crate::time::nanos_by;
-use crate::{ByteOrder, Interface, NgKind};
+use crate::{ByteOrder, Interface, NgBreak, NgKind};
 use std::alloc::Global;
 use std::test::Fail;
 
@@ -266,6 +266,24 @@ fn the_first_row_of_the_table_breaks_a_big_endian_block(rt: HostRuntime) -> Resu
             ]
         )? == None
     );
+    Ok(())
+}
+
+#[test]
+fn a_block_above_the_greatest_number_breaks(rt: HostRuntime) -> Result<(), Fail> {
+    for order in [ByteOrder::Little, ByteOrder::Big] {
+        let mut scope = Scope::new(rt.alloc())?;
+        scope.begin(order);
+        let found = front_break_at(&scope, 4294967295, &[0]);
+        assert!(rt;
+            found
+                == Some(NgBreak {
+                    block: 4294967295,
+                    kind: NgKind::Blocks,
+                    value: 0
+                })
+        );
+    }
     Ok(())
 }
 

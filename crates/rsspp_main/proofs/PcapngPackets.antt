@@ -16,7 +16,7 @@ use Rattle.pcapng_reader.specs.Numbers.{number_at}
 use Rattle.pcapng_reader.specs.Scope.{Scope}
 use Rattle.pcapng_reader.specs.Front.{kind_of, is_record, interface_named, original_of}
 use Rattle.pcapng_reader.specs.Breaks.{first_row, first_break, is_bad_link, front_break, rest_rows}
-use Rattle.pcapng_reader.specs.Blocks.{Packet, Story, extent, packet_at, packet_by, packets_by, packets_in, link_with, after_by, scope_after, before, unless, story_from, story_at, story_of, at_first}
+use Rattle.pcapng_reader.specs.Blocks.{Packet, Story, extent, packet_at, packet_by, block_packets_by, block_packets, link_with, after_by, scope_after, before, unless, story_from, story_at, story_of, at_first}
 use Rattle.pcapng_reader.proofs.Stories.{neither, second}
 use Rattle.pcapng_reader.proofs.Fronts.{sound_named, sound_record, sound_link}
 use Rattle.pcapng_reader.proofs.Opens.{no_link}
@@ -88,7 +88,7 @@ record_by scope n bytes kind (Some interface) later h k r some behind = record_f
 
 -- a block more in front
 block_by : (kind : BlockKind) (scope : Scope) (n : ℕ) (bytes : List ℕ) (later : List Packet) → front_break scope n (take 28 bytes) ≡ None → kind_of scope.order (take 28 bytes) ≡ kind →
-    AreSoundBehind (after_by kind scope bytes).link later → AreSoundBehind scope.link (packets_by kind scope bytes ++ later)
+    AreSoundBehind (after_by kind scope bytes).link later → AreSoundBehind scope.link (block_packets_by kind scope bytes ++ later)
 block_by Section scope n bytes later h k behind = behind
 block_by Description scope n bytes later h k behind = behind
 block_by Simple scope n bytes later h k behind = record_by scope n bytes Simple (slice_get scope.interfaces (interface_named Simple scope.order (take 28 bytes))) later h k refl refl behind
@@ -99,8 +99,8 @@ sound_front : (scope : Scope) (n : ℕ) (bytes : List ℕ) → first_break scope
 unfolding first_break
 sound_front scope n bytes h = (neither (front_break scope n (take 28 bytes)) (first_row n (rest_rows scope.order bytes)) h).0
 
-block_first : (scope : Scope) (n : ℕ) (bytes : List ℕ) (later : List Packet) → first_break scope n bytes ≡ None → AreSoundBehind (scope_after scope bytes).link later → AreSoundBehind scope.link (packets_in scope bytes ++ later)
-unfolding packets_in scope_after
+block_first : (scope : Scope) (n : ℕ) (bytes : List ℕ) (later : List Packet) → first_break scope n bytes ≡ None → AreSoundBehind (scope_after scope bytes).link later → AreSoundBehind scope.link (block_packets scope bytes ++ later)
+unfolding block_packets scope_after
 block_first scope n bytes later h behind = block_by (kind_of scope.order (take 28 bytes)) scope n bytes later (sound_front scope n bytes h) refl behind
 
 sound_none : (link : Option ℕ) → AreSoundBehind link []
@@ -117,7 +117,7 @@ sound_story (suc k) scope n (b ∷ bs) =
   where
     by_break : (k : ℕ) (scope : Scope) (n : ℕ) (bytes : List ℕ) (o : Option NgBreak) → first_break scope n bytes ≡ o →
         AreSoundBehind (scope_after scope bytes).link (story_from k (scope_after scope bytes) (n + 1) (drop (extent scope.order bytes) bytes)).packets →
-        AreSoundBehind scope.link (unless o (before (packets_in scope bytes) (story_from k (scope_after scope bytes) (n + 1) (drop (extent scope.order bytes) bytes)))).packets
+        AreSoundBehind scope.link (unless o (before (block_packets scope bytes) (story_from k (scope_after scope bytes) (n + 1) (drop (extent scope.order bytes) bytes)))).packets
     by_break k scope n bytes (Some e) h later = sound_none scope.link
     by_break k scope n bytes None h later = block_first scope n bytes _ h later
 
@@ -152,7 +152,7 @@ packet_fits : (kind : BlockKind) (order : ByteOrder) (o : Option Interface) (byt
 packet_fits kind order None bytes h = All-nil Fits
 packet_fits kind order (Some interface) bytes h = All-cons Fits (packet_at kind order interface bytes) [] (original_fits kind order (take 28 bytes) (All-take (λ b. b < 256) 28 bytes h)) (All-nil Fits)
 
-block_fits : (kind : BlockKind) (scope : Scope) (bytes : List ℕ) → AreBytes bytes → All Fits (packets_by kind scope bytes)
+block_fits : (kind : BlockKind) (scope : Scope) (bytes : List ℕ) → AreBytes bytes → All Fits (block_packets_by kind scope bytes)
 block_fits Section scope bytes h = All-nil Fits
 block_fits Description scope bytes h = All-nil Fits
 block_fits Simple scope bytes h = packet_fits Simple scope.order _ bytes h
@@ -160,12 +160,12 @@ block_fits Enhanced scope bytes h = packet_fits Enhanced scope.order _ bytes h
 block_fits Other scope bytes h = All-nil Fits
 
 story_fits : (k : ℕ) (scope : Scope) (n : ℕ) (bytes : List ℕ) → AreBytes bytes → All Fits (story_from k scope n bytes).packets
-unfolding story_from packets_in
+unfolding story_from block_packets
 story_fits zero scope n bytes h = All-nil Fits
 story_fits (suc k) scope n [] h = All-nil Fits
 story_fits (suc k) scope n (b ∷ bs) h =
     let bytes : List ℕ = b ∷ bs in
-    by_break (first_break scope n bytes) (packets_in scope bytes) _ (block_fits (kind_of scope.order (take 28 bytes)) scope bytes h)
+    by_break (first_break scope n bytes) (block_packets scope bytes) _ (block_fits (kind_of scope.order (take 28 bytes)) scope bytes h)
     (story_fits k (scope_after scope bytes) (n + 1) (drop (extent scope.order bytes) bytes) (All-drop (λ b. b < 256) (extent scope.order bytes) bytes h))
   where
     by_break : (o : Option NgBreak) (packets : List Packet) (story : Story) → All Fits packets → All Fits story.packets → All Fits (unless o (before packets story)).packets
