@@ -12,6 +12,9 @@ use rss_base::NoMemory;
 use std::alloc::Global;
 use std::marker::Model;
 
+#[cfg(test)]
+mod tests;
+
 /// The flows of one bucket.
 #[derive(Drop)]
 pub struct BucketTable<W: FlowWork> {
@@ -116,8 +119,9 @@ impl<W: FlowWork> BucketTable<W> {
         });
     }
 
-    /// Works the packet that is next in its bucket. Where memory is refused the table is short
-    /// from then on: it still counts packets and bytes, and its flows say nothing.
+    /// Works the packet at `place` in its bucket, from 0, which has to be the next. Where memory is
+    /// refused the table is short from then on: it still counts packets and bytes, and its flows say
+    /// nothing.
     pub fn work(&mut self, work: &W, packet: &PacketInfo, place: u32)
         requires next { place ≡ self.old.done }
         requires room { self.old.done < MOST_PACKETS }

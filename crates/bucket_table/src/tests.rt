@@ -6,7 +6,7 @@ use std::process::Abort;
 use std::test::Fail;
 
 // A packet of the flow from this port.
-fn packet(port: u16, original: u32) -> PacketInfo {
+pub(crate) fn packet(port: u16, original: u32) -> PacketInfo {
     PacketInfo {
         key: FlowKey {
             class: Class::Udp,
@@ -23,7 +23,7 @@ fn packet(port: u16, original: u32) -> PacketInfo {
 }
 
 // Numbers to hash by, which everybody knows.
-fn hashing(byte: u8) -> FlowHashKey {
+pub(crate) fn hashing(byte: u8) -> FlowHashKey {
     FlowHashKey::from_bytes(&[byte; FLOW_HASH_KEY_BYTES])
 }
 
