@@ -5,8 +5,8 @@ use crate::OptionName;
 pub enum WordFault {
     /// Memory was refused.
     NoMemory,
-    /// An option or the flag is unknown, stands twice or lacks its value, or there are no
-    /// positional words or too many.
+    /// An option or the flag is unknown or stands twice, an option lacks its value, the flag has
+    /// one, or there are no positional words or too many.
     Words,
     /// The first positional word is no mode.
     Mode,

@@ -13,7 +13,7 @@ use pcap_reader::Reader;
 use rss_base::Source;
 
 /// The next packet, or the end of the stream: `sent` packets were read before it, and packet number
-/// `limit` is one too many.
+/// `limit`, counted from 0, is one too many.
 pub fn read_next<S: Source>(
     limit: u32,
     sent: u32,

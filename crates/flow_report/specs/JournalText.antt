@@ -12,7 +12,7 @@ use Rattle.indirection.specs.declared.entry.Entry.TheVariants.{Round, Order}
 use Rattle.indirection.specs.Views.{RoundView}
 use Rattle.indirection.specs.JournalView.{JournalView}
 
--- a line is a list of words, the first of which tells what it is of
+-- a line is a list of words, the first of which tells its kind
 
 -- words, each behind a space
 abbrev pub spaced : List (List ℕ) → List ℕ

@@ -97,8 +97,8 @@ fn write_held<K: Sink>(custody: &[Custody], text: &mut Text, out: &mut K) -> Res
 }
 
 /// Writes a journal: its starting table, its rounds and orders with what came of them, and behind
-/// them the custody, in the order in which it is handed in. Each line is written in one piece.
-/// After a fault a front of the text was written.
+/// them the custody, in the order in which it is handed in. After a fault a front of the text was
+/// written.
 pub fn journal_text<K: Sink>(
     alloc: Global,
     journal: &Journal,

@@ -7,8 +7,8 @@ ghost use Rattle.flow_report.specs.JournalNumbers.{HasShortNumbers};
 
 /// The text of a journal and of custody tells all of both: equal texts have the same lines, and
 /// where each round has as many outcomes as proposals, they have the same journal and the same
-/// custody. A text shows a number of at most 64 digits whole, and every number of the program's
-/// types is one.
+/// custody. The second needs numbers of at most 64 digits; every number of the program's types is
+/// one.
 pub fn journal_texts_tell_all()
     ensures lines { (j k : JournalView) (c d : List Custody) →
         journal_bytes j c ≡ journal_bytes k d → journal_lines j c ≡ journal_lines k d }

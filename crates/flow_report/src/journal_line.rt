@@ -160,7 +160,7 @@ fn put_line(line: &Line<'_>, text: &mut Text) -> Result<(), NoMemory>
     }
 }
 
-/// Writes a line in one piece.
+/// Writes a line.
 pub fn write_line<K: Sink>(line: &Line<'_>, text: &mut Text, out: &mut K) -> Result<(), ReportFault>
     ensures ok { OnOk result (Gets (K.may_hold out.old) (K.may_hold out.new)
         (line_bytes (line_words line.now))) }

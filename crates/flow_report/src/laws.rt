@@ -19,8 +19,8 @@ pub fn report_keys()
         list_any (same_key key) (keys_of packets) ≡ list_any (λ p. same_key key p.key) packets }
 {}
 
-/// Tables that together stand for packets have no key twice, and have done as many packets, as
-/// [`report`](crate::report) asks.
+/// Of tables that together stand for packets no two share a key, as [`report`](crate::report)
+/// requires, and together they have done as many packets as there are.
 pub fn standing_tables<W: FlowWork>()
     ensures apart { (packets : List PacketInfo) (bucket_of : FlowKey → ℕ) (tables : List (TableOf W.State)) →
         StandTogether W.opening W.after bucket_of packets tables → AllPairs SharesNoKey tables }

@@ -5,9 +5,9 @@
 //! [`journal_text`] writes a journal in lines of words (`specs/JournalText.antt`), which tell all
 //! of it ([`journal_texts_tell_all`]).
 //!
-//! Read `specs/Report.antt` and `specs/Tables.antt`, then `fault.rt`, `write.rt` and `laws.rt`; for
-//! the journal `specs/JournalText.antt` and `specs/JournalNumbers.antt`, then `journal.rt` and
-//! `journal_laws.rt`.
+//! Read `specs/Report.antt` and `specs/Tables.antt`, then `fault.rt`, `write.rt`, `sums.rt` and
+//! `laws.rt`; for the journal `specs/JournalText.antt` and `specs/JournalNumbers.antt`, then
+//! `journal.rt` and `journal_laws.rt`.
 #![tactic(auto)]
 
 mod fault;

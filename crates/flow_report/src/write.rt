@@ -16,9 +16,9 @@ use flow_work::FlowWork;
 use rss_base::{Sink, Text};
 use std::alloc::Global;
 
-/// Writes one line per flow of the tables, in key order, and then the total line, each in one
-/// piece. Where the tables together stand for packets, that is the report of these packets. After
-/// a fault a front of the text was written.
+/// Writes one line per flow of the tables, in key order, and then the total line. Where the tables
+/// together stand for packets, that is the report of these packets. After a fault a front of the text
+/// was written.
 pub fn report<W: FlowWork, K: Sink>(
     alloc: Global,
     work: &W,

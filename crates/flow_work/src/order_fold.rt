@@ -13,8 +13,8 @@ pub const FACTOR: u32 = 31;
 // How many bytes on the wire cost 1.
 const COST_UNIT: u32 = 64;
 
-/// Makes one number of the packets' lengths on the wire, which tells in which order they came:
-/// `order 59910`. A packet costs 1, and 1 more for each 64 bytes, up to the most.
+/// Makes one number of the packets' lengths on the wire, which depends on their order: `order 59910`.
+/// A packet costs 1, and 1 more for each 64 bytes, up to the most.
 #[derive(Clone, Copy, Debug)]
 pub struct OrderFold;
 

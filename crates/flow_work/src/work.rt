@@ -44,8 +44,8 @@ pub trait FlowWork {
         ensures state { result ≡ after state packet.now }
         ensures more { (k : ℕ) → k < MOST_PACKETS → stands_for state k → stands_for result (k + 1) };
 
-    /// How much it takes to work a packet, against that of other packets: 1 to [`MOST_COST`]. The
-    /// loads that rounds of balancing weigh are made of it.
+    /// How much work a packet is, relative to other packets: 1 to [`MOST_COST`]. The loads that
+    /// rounds of balancing weigh are made of it.
     fn cost(&self, packet: &PacketInfo) -> u32
         ensures cost { result ≡ cost_of packet.now }
         ensures bounds { (1 ≤ result) × (result ≤ MOST_COST) };

@@ -1,5 +1,6 @@
 /// An atomic step of the machine: a push or a pop on one receive queue, a look at one passage word,
-/// an exchange or a store of one passage word with its table, or a first change of an entry.
+/// an exchange or a store of one passage word with its table, or a change of an entry before anything
+/// of its bucket was sent.
 #[derive(Clone, Copy, Debug, PartialEq, Eq)]
 pub enum Event {
     /// The dispatcher sends the next packet to the core that owns its bucket.
@@ -16,7 +17,7 @@ pub enum Event {
         /// The core that gets it.
         to: u8,
     },
-    /// The dispatcher gives a bucket of which nothing was sent to another core.
+    /// The dispatcher gives a bucket, of which nothing was sent, to another core.
     Place {
         /// The bucket.
         bucket: u16,

@@ -21,7 +21,8 @@ pub struct Stretch {
     pub to: u32,
 }
 
-/// What an end of a shelf knows. Each list has its newest entry first.
+/// What an end of a shelf knows. Each list has its newest entry first; a seat that was joined to
+/// another has its own entries and then the other's.
 pub struct ShelfHistory {
     /// The hash key of the run.
     pub key: Key,

@@ -63,8 +63,8 @@ pub fn lawful_answers()
 {}
 
 /// In a journal that is lawful so far the stint that has a packet's place is of the core that owns
-/// its bucket at its position, and there is one. What the story sends to a core are the costs of
-/// the packets that the core owns at their positions.
+/// its bucket at its position, and there is one. What the story sends to a core is the cost,
+/// together, of the packets that the core owns at their positions.
 pub fn lawful_owners()
     ensures core { (rules : Rules) (before behind : List Parcel) (p : Parcel) (j : JournalView) →
         IsLawfulSoFar rules (before ++ p ∷ behind) j →

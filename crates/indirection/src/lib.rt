@@ -10,7 +10,8 @@
 //!
 //! Read `table.rt` with `specs/Tables.antt`; `entry.rt`; in `specs/` Tries, Story, Due and Lawful,
 //! then `journal.rt` and `laws.rt`; then `specs/JournalFacts.antt` and `journal_laws.rt`.
-//! `specs/Stints.antt` and `specs/Buckets.antt` are for the layers above.
+//! `specs/Buckets.antt` has the bucket of a hash, and `specs/Stints.antt` which core had which
+//! packets.
 #![tactic(auto)]
 
 mod entry;

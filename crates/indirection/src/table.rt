@@ -42,8 +42,9 @@ impl Table {
         }
     }
 
-    /// A table with these owners. A list that isn't one is refused by its length first, then by
-    /// its first entry that is no core, and for want of memory last.
+    /// A table with these owners. A list of another length is refused for that, else one with an
+    /// entry that is no core for the first of them; a list that is a table is refused only for want
+    /// of memory.
     pub fn of_list(alloc: Global, cores: u8, buckets: u16, list: &[u8]) -> Result<Table, TableFault>
         requires some_core { 1 ≤ cores }
         requires cores { cores ≤ MOST_CORES }

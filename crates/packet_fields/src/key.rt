@@ -3,13 +3,13 @@ use std::cmp::Ordering;
 /// What a packet is, as far as its flow is told.
 #[derive(Clone, Copy, Debug, PartialEq, Eq, PartialOrd, Ord, Hash)]
 pub enum Class {
-    /// A whole TCP header over IPv4.
+    /// The 20 fixed bytes of a TCP header over IPv4.
     Tcp,
     /// A whole UDP header over IPv4.
     Udp,
     /// Any other IPv4 packet, fragments among them.
     Ip,
-    /// A whole TCP header over IPv6.
+    /// The 20 fixed bytes of a TCP header over IPv6.
     Tcp6,
     /// A whole UDP header over IPv6.
     Udp6,

@@ -62,8 +62,9 @@ impl Reader {
     ghost use Rattle.pcap_reader.specs.Reading.{Reading, still, answer, Proceeds};
     ghost use Rattle.pcap_reader.specs.Next.{captured_of, seen, EndsAs};
 
-    /// Takes the buffer, and then reads the header of the capture. `NoMemory` comes before any
-    /// read, and otherwise what is wrong with the header first.
+    /// Takes the buffer, and then reads the header of the capture. `NoMemory` comes before any read,
+    /// `ReadFault` where a read failed, and `Broken` with the first thing that is wrong with the
+    /// header.
     pub fn start<S: Source>(alloc: Global, source: &mut S) -> Result<Reader, ReadError>
         ensures header { IfOk result (λ reader. TakesHeader (S.left source.old) (still reader (S.left source.new)) reader.form) }
         ensures first { IfOk result (λ reader. (reader.given ≡ 0) × (reader.progress ≡ Progress.Going)) }

@@ -6,8 +6,8 @@ ghost use Rattle.rss_base.specs.Written.{Gets};
 use crate::{Failed, Sink};
 use std::marker::Model;
 
-/// A sink that never fails and keeps no byte: it tells the length of what was written, and a sum
-/// that tells texts apart with high odds, not with certainty.
+/// A sink that never fails and keeps no byte: it tells the length of what was written, and a sum of
+/// it, which other texts may have too.
 #[derive(Clone, Copy, Debug)]
 pub struct FoldSink {
     /// In bytes. It stays at the greatest `u64`.

@@ -8,7 +8,8 @@
 //!
 //! Read `source.rt` and `sink.rt`, the traits, with `specs/Faults.antt` and `specs/Written.antt`;
 //! then their ends in memory, `memory_source.rt`, `memory_sink.rt` and `fold_sink.rt`, and over
-//! files, `std_source.rt` and `std_sink.rt`. The other files stand by themselves.
+//! files, `std_source.rt` and `std_sink.rt`. The other files stand by themselves; [`Gate`] and
+//! [`Link`] are for the layers above.
 #![tactic(auto)]
 
 mod fold_sink;

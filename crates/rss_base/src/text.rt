@@ -8,7 +8,7 @@ use itoa::Buffer;
 use std::alloc::Global;
 use std::marker::Model;
 
-/// A line that is put together before it is written. Contracts see it as the list of its bytes.
+/// A text that is put together before it is written. Contracts see it as the list of its bytes.
 #[derive(Drop)]
 pub struct Text {
     bytes: Vec<u8>,

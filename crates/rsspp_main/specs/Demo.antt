@@ -36,7 +36,7 @@ abbrev pub demo_text : ℕ → ℕ → (List PacketInfo → List ℕ) → List P
 demo_text count number report_of packets =
     demo_line count number ++ (totals_line packets ++ sum_line (text_count (report_of packets)) (text_sum (report_of packets)))
 
--- the text is that of packets that the generated ones show as
+-- the text is that of the packets that are shown of the generated ones (AreShown)
 abbrev pub IsDemo : Option (List PacketInfo) → (List PacketInfo → List ℕ) → Command → List ℕ → Type 0
 IsDemo packets report_of c text =
     (shown : List PacketInfo) × AreShown packets (run_terms c.options) (packets_made c.count c.number) shown × (text ≡ demo_text c.count c.number report_of shown)

@@ -1,5 +1,5 @@
 -- Read Status, Input and Run, then by mode Reports, Demo, Threads, Listing (over Stops) and Plan;
--- Answers says which of them the words ask for. Notes and Named stand by themselves. Some words in
+-- Answers says which of them the words ask for. Packets, Notes and Named stand by themselves. Some words in
 -- these files serve proofs of bodies alone.
 pub mod Answers
 pub mod Demo

@@ -47,7 +47,7 @@ abbrev pub journal_part : Bool → JournalState → List Custody → List ℕ
 journal_part false journal custody = []
 journal_part true journal custody = journal_bytes (journal_view journal) custody
 
--- the text is the report of packets that all packets show as, and behind it, where it is asked for, the journal of the serial run under the number over all packets
+-- the text is the report of the packets that are shown of all (AreShown), and behind it, where it is asked for, the journal of the serial run under the number over all packets
 pub record IsSerialText (packets : Option (List PacketInfo)) (report_of : List PacketInfo → List ℕ) (asked : Bool) (t : Terms) (pool number : ℕ) (all : List PacketInfo) (text : List ℕ) : Type 0 where
   pub shown : List PacketInfo
   pub are_shown : AreShown packets t all shown

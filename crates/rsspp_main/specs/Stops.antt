@@ -33,7 +33,7 @@ StopsWith limit left now records (Block e) = ⊥
 StopsWith limit left now records (Line k) = ⊥
 StopsWith limit left now records (Words w) = ⊥
 
--- the reading of the classic capture that an input stands for stopped so. An input that is no pcapng capture was read no further than that; of a pcapng capture the blocks up to the next record may have been
+-- the reading of the classic capture that an input stands for stopped so. An input that is no pcapng capture was read no further than that, but for four bytes; of a pcapng capture nothing is said of how far it was read
 abbrev pub StopsIn : ℕ → Option (List ℕ) → Option (List ℕ) → List Captured → TopFault → Type 0
 StopsIn limit left now records fault = (rest : Option (List ℕ)) × StopsWith limit (classic_known left) rest records fault × ReadsNoFurther left rest now
 

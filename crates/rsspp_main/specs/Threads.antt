@@ -19,7 +19,7 @@ abbrev pub Tells : Option Trace → Trace → Type 0
 Tells None run = Unit {0}
 Tells (Some told) run = told ≡ run
 
--- the text is the report of packets that all packets show as, and behind it, where it is asked for, the journal of a run in threads over all packets, which is the run that is told
+-- the text is the report of the packets that are shown of all (AreShown), and behind it, where it is asked for, the journal of a run in threads over all packets, which is the run that is told
 pub record IsThreadedText (packets : Option (List PacketInfo)) (report_of : List PacketInfo → List ℕ) (asked : Bool) (t : Terms) (told : Option Trace) (all : List PacketInfo) (text : List ℕ) : Type 0 where
   pub shown : List PacketInfo
   pub are_shown : AreShown packets t all shown

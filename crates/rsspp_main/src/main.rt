@@ -5,7 +5,8 @@
 //!
 //! Read `specs/Status.antt`, `specs/Run.antt` and `specs/Answers.antt`, then `fault.rt` and
 //! `top.rt`; then a mode with its definition: `serial.rt` (Reports), `threaded.rt` (Threads),
-//! `demo.rt` (Demo), `listing.rt` (Listing), `modes.rt` (Plan).
+//! `demo.rt` (Demo), `listing.rt` (Listing), `modes.rt` (Plan). `input.rt` (Input) and `laws.rt`
+//! (Packets) tell of pcapng.
 #![tactic(auto)]
 
 mod demo;

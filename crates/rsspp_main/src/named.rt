@@ -29,7 +29,7 @@ impl RunName for OnePacket {
     ghost packets = { Some (one_packet ∷ []) };
 }
 
-/// Reports that capture in threads. This is [`rsspp`] where its condition on the name of a run is
+/// Reports the generated capture of one record in threads. This is [`rsspp`] where its condition on the name of a run is
 /// met by a list: status 0 then tells the very bytes of the report, and the trace is one of that
 /// list.
 pub fn report_one_packet<R: Threads + Wait + Sync>(

@@ -208,10 +208,10 @@ fn read_and_run<
 /// `words` are those after the program's name, `hashing` are the numbers that flow tables hash by, if
 /// they could be drawn, `source` is the capture or the plan text, `out` gets the output, and `notes`
 /// one line where the status isn't 0. Without numbers `report` and `demo` end as with a failed read,
-/// and nothing is read or written; nothing else depends on them. `report` and `demo` run in
-/// threads, and each worker passes the gate before each packet; with `--serial` they run on the
-/// caller's thread, under its number. With `--serial`, and with the other modes, the call returns;
-/// of a run in threads that isn't claimed.
+/// and nothing is read or written; no other clause speaks of them. `report` and `demo` run in
+/// threads, and each worker passes the gate before each packet (which no clause says); with
+/// `--serial` they run on the caller's thread, under its number. With `--serial`, and with the other
+/// modes, the call returns; of a run in threads that isn't claimed.
 pub fn rsspp<
     N: RunName + Send + Sync + Drop,
     S: Source,
@@ -237,7 +237,7 @@ pub fn rsspp<
     // had a whole capture left and was read to its end, and the output got exactly the report of
     // its packets, where they are named; where the words ask for the journal, that of the run
     // stands behind it. Of a run in threads the trace tells that very journal and its custody, with
-    // the notes of what the threads shared: each bucket's table has one history.
+    // what closing told of the lanes and the shelf: each bucket's table has one history.
     ensures outcome { let at = ends_at S.left S.faults K.faults K.may_hold in
         let before = at source.old out.old in let now = at source.new out.new in
         (fault : Option TopFault) × (result.status ≡ status_of fault)

@@ -26,7 +26,7 @@ pub struct Left {
     pub shelf: ShelfNote,
     pub load: MeterSeat,
     /// How many packets were worked: 1, or 0 where the pool had no cell, the lane no room, or the
-    /// shelf not the table.
+    /// shelf not the table. No clause says which.
     pub worked: u64,
 }
 
@@ -79,7 +79,7 @@ fn in_two_threads<R: Threads + Wait + Sync, W: FlowWork + Sync, N: RunName + Syn
 
 /// Has one thread send the first packet of a bucket, in a cell of the pool, and then End, while
 /// another takes what is sent, gives the cells back, works the packet into the bucket's table, and
-/// notes for its core how many packets it worked. Behind them the lane is closed, the seats of the
+/// notes for its core how many packets it worked, as if each cost 1. Behind them the lane is closed, the seats of the
 /// shelf and of the meter are joined, and the shelf is closed: its tables are appended to a list
 /// that has room for them. It takes memory in the work alone.
 pub fn send_and_work<R: Threads + Wait + Sync, W: FlowWork + Sync, N: RunName + Sync>(

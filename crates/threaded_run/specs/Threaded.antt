@@ -40,7 +40,7 @@ all_taken notes = map (λ (n : Noted). map plain n.taken) notes
 abbrev pub packets_for : List (List Item) → List ℕ
 packets_for streams = map (count_by is_packet) streams
 
--- the packets are no more than the limit of the terms, and the journal is lawful for all of them; the lane of each core was sent the core's stream by that journal, and all of it was taken; the custodies that were ended on the shelf are of each bucket its stints by that journal, in their order; custody tells these stints with their cores; each core worked the packets of its stream
+-- the packets are no more than the limit of the terms, and the journal is lawful for all of them; the lane of each core was sent the core's stream by that journal, and all of it was taken; the custodies that were ended on the shelf are of each bucket its stints by that journal, in their order; custody tells these stints with their cores; each core worked as many packets as its stream has
 pub record IsThreadedRun (t : Terms) (all : List PacketInfo) (journal : JournalState) (custody : List Custody) (worked : List ℕ) (notes : List Noted) (shelf : Option (List Stretch)) : Type 0 where
   pub few : length all ≤ t.packets
   pub lawful : IsLawful (rules_of t) (parcels t all) (journal_view journal)

@@ -27,8 +27,7 @@ use std::thread::Threads;
 /// Runs the dispatcher on the caller's thread and each worker in a thread of its own, until all have
 /// ended. Workers that no thread could be made for are run by the caller. All memory of the opening
 /// is taken before the first read. A run with a table, a log or a journal that is short of memory is
-/// `NoMemory`. Nothing that it answers depends on the numbers that its tables hash by. That it
-/// returns isn't claimed.
+/// `NoMemory`. No clause names the numbers that its tables hash by. That it returns isn't claimed.
 pub fn run_threads<
     N: RunName + Send + Sync + Drop,
     S: Source,

@@ -16,8 +16,8 @@ use std::marker::Model;
 const BYTES: usize = 256;
 
 /// The hash of a key by tables. For each place of an input there is one number for each byte: the
-/// hash of this byte by the key from that place on. The hash of an input is linear over exclusive
-/// or, and so is the exclusive or of the numbers of its bytes. Contracts see the key.
+/// hash of this byte by the key from that place on. The hash is linear over exclusive or, so the hash
+/// of an input is the exclusive or of the numbers of its bytes. Contracts see the key.
 #[derive(Drop)]
 pub struct KeyTables {
     key: Key,

@@ -1,8 +1,8 @@
 //! The Toeplitz hash of the Microsoft RSS definition, and the bucket that a packet's hash chooses.
 //!
 //! [`hash`] is proved equal to an exclusive or over the set bits of its input
-//! (`specs/Toeplitz.antt`), and [`hash_info`] to the hash of what a packet's class has hashed
-//! (`specs/Packet.antt`). [`KeyTables`] answers the same by tables, one look-up a byte, and
+//! (`specs/Toeplitz.antt`), and [`hash_info`] to the hash of the addresses and ports that count for a
+//! packet's class (`specs/Packet.antt`). [`KeyTables`] answers the same by tables, one look-up a byte, and
 //! contracts see its key alone. A [`BucketHash`] is a key with a number of buckets, by which a
 //! packet's hash chooses its bucket. [`one_bucket_each`] says that each packet of a list is in one
 //! bucket, which its flow alone decides (`specs/Bucket.antt`).

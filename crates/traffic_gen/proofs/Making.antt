@@ -5,10 +5,10 @@ use Rattle.std.proofs.Math.Seq.{take-add}
 use Rattle.rss_base.specs.Written.{Gets, GetsFront}
 use Rattle.rss_base.proofs.Pieces.{Gets-trans}
 use Rattle.traffic_gen.specs.Traffic.{traffic}
-use Rattle.traffic_gen.specs.Source.{Flowing, left_of}
+use Rattle.traffic_gen.specs.Source.{TrafficView, left_of}
 
 -- a source tells the traffic that it was made over
-pub left_is : (s : Flowing) (count number : ℕ) → s.count ≡ count → s.number ≡ number → left_of s ≡ drop s.given (traffic count number)
+pub left_is : (s : TrafficView) (count number : ℕ) → s.count ≡ count → s.number ≡ number → left_of s ≡ drop s.given (traffic count number)
 left_is s count number a b = rw (a, b) refl
 
 -- where nothing more is given, all was

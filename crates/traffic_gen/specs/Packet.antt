@@ -7,7 +7,7 @@ use Rattle.traffic_gen.specs.Draw.{flow_of}
 abbrev pub length_of : ℕ → ℕ
 length_of index = 60 + 10 * (index % 8)
 
--- the control bits of the packet at an index (RFC 9293, section 3.1): one opens a connection by SYN, fourteen follow with ACK, and one ends it by FIN and ACK
+-- the control bits of the packet at an index (RFC 9293, section 3.1): of each 16 indices the first has SYN, the last FIN and ACK, and the others ACK
 abbrev pub flags_of : ℕ → ℕ
 flags_of index =
     if index % 16 == 0 then 0x02

@@ -16,10 +16,10 @@ pub struct TrafficSource {
 }
 
 impl Model for TrafficSource {
-    ghost use Rattle.traffic_gen.specs.Source.{Flowing};
+    ghost use Rattle.traffic_gen.specs.Source.{TrafficView};
     ghost use Rattle.traffic_gen.specs.Upcoming.{StandsBehind};
 
-    ghost Value = { Flowing };
+    ghost Value = { TrafficView };
 
     ghost view = { λ s. record { count = s.upcoming.count; number = s.upcoming.number; given = s.given } };
 

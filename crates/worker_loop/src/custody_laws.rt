@@ -31,8 +31,8 @@ ghost use Rattle.worker_loop.specs.Seats.{HeldBy, Logged, HoldsByWord};
 use flow_work::FlowWork;
 
 /// The custodies of a bucket that a worker's turns ended, and then that of its table if it has it,
-/// are the stretches of the bucket's cells that it is done with. So it is of its log, unless it is
-/// short, and of all that an end of its own ended. Where the worker has ended, they are the
+/// are the stretches of the bucket's cells that it is done with. The same holds of its log, unless
+/// it is short, and of what an end of its own ended. Where the worker has ended, they are the
 /// stretches of all that was taken; and where that is its core's stream of a lawful journal, they
 /// are the stints that the core has of that journal.
 pub fn custodies_are_stretches<W: FlowWork>()

@@ -41,9 +41,9 @@ use flow_work::FlowWork;
 
 /// What a worker that is tied to its ends promises. A table leaves, and so is released, only behind
 /// the mark of its stint, with as many packets done as the mark says, or once End was taken. A turn
-/// is the last one exactly where End was taken and nothing waits, is held or leaves. Where nothing
-/// is parked, each packet that was taken was worked once, and its cost was added. Where End was
-/// taken, all that was sent was taken.
+/// answers Ended exactly where End was taken and nothing waits, is held or leaves. Where nothing is
+/// parked, as many packets were worked as were taken, at the cost that they have together. Where End
+/// was taken, all that was sent was taken.
 pub fn workers_keep_order<W: FlowWork>()
     ensures released { (j : Workload W.State) (w : WorkerState (TableOf W.State)) (lane : LaneHistory) (shelf : ShelfHistory) (meter : LoadHistory) (b : ℕ) (t : TableOf W.State)
         → Tied j w lane shelf meter → b < w.run.buckets → slot_at b w ≡ Leaving t → (w.took_end ≡ true) ⊎ IsBehindMark b t.done (cells_at b w.lot) lane.taken }
@@ -97,8 +97,8 @@ pub fn workers_leave_others<W: FlowWork>()
         → IsTurn j s turn t → d ≢ s.worker.core → Tells s.meter_now d n → Tells t.meter_now d n }
 {}
 
-/// What the packets cost that a worker has worked is what it noted last, and what a meter of its
-/// own core's tells. Its core of the handover machine has worked as many packets, at this cost,
+/// The cost of the packets that a worker has worked is what it noted last, and what the meter tells of
+/// its core. Its core of the handover machine has worked as many packets, at this cost,
 /// where `costs` says what each packet that was taken costs by its bucket and place.
 pub fn workers_note_all<W: FlowWork>()
     ensures noted { (j : Workload W.State) (s t : WorkerSnapshot (TableOf W.State)) (turn : WorkerTurn)
