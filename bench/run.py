@@ -40,10 +40,13 @@ OTHERS = {
 # A report is a run: on one thread in an order that a number determines, or in threads.
 RUNS = ("--serial 0", "--cores 1", "--cores 2", "--cores 4", "--cores 64")
 
-# Words in which each option stands that is built, the longest values among them.
-EACH_OPTION = "--cores 64 --buckets 512 --work count --round 1000 --limit 4 --pool 1024".split()
-EACH_OPTION += ["--key", "6d" * 40, "--table", ",".join(str(b % 64) for b in range(512))]
-EACH_OPTION += ["--moves", ",".join(f"{at}:0:1" for at in range(4096)), "--packets", "1000"]
+# A run that opens as much as any, on one thread.
+LARGEST = "--serial 0 --cores 64 --buckets 2048 --pool 4096".split()
+
+# The words of all other options but --journal, the longest values among them.
+OTHER_OPTIONS = "--work count --round 1000 --limit 4 --packets 1000".split()
+OTHER_OPTIONS += ["--key", "6d" * 40, "--table", ",".join(str(b % 64) for b in range(2048))]
+OTHER_OPTIONS += ["--moves", ",".join(f"{at}:0:1" for at in range(4096))]
 
 
 @dataclass
@@ -261,8 +264,9 @@ class Bench:
         plan, report = [self.program, "plan"], [self.program, "report"]
         rows = [(f"plan, limit {limit}", plan, text) for limit, text in texts.items()]
         rows.append(("report of 1,000", report, self.capture(FEW, records=1_000)))
-        rows.append(("words of each option", report + EACH_OPTION, empty))
         rows.append(("report of nothing", report, empty))
+        rows.append(("largest opening", report + LARGEST, empty))
+        rows.append(("all other options", report + LARGEST + OTHER_OPTIONS, empty))
         times(rows, 10 * self.runs)
 
 
